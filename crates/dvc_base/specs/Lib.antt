@@ -1,0 +1,4 @@
+pub mod Path
+pub mod Normal
+pub mod Fault
+pub mod Join

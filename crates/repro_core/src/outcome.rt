@@ -1,0 +1,89 @@
+// The run of a stage's job, between the clear of its outputs and the look at them.
+ghost use Rattle.std.specs.Prelude.{◌≡◌, ◌++◌, [], ◌∷◌, IsTrue, IfSome, OnOk, IsErrOf, None};
+ghost use Rattle.dvc_base.specs.declared.fault.Fault.TheVariants.{WorldFault};
+ghost use Rattle.world_api.specs.Effect.{invocation_of, is_in_any};
+ghost use Rattle.world_api.specs.History.{Passes, HasCause, Keeps};
+ghost use Rattle.world_api.specs.Calls.{HasFolders, are_apart, is_runnable, InRun};
+ghost use Rattle.repro_core.specs.Stage.{job_of, dep_paths, IsReady};
+ghost use Rattle.repro_core.specs.Due.{dep_fault, outcome_fault};
+ghost use Rattle.repro_core.specs.Answer.{fault_in, IsAnswer, Gains, IsCounted, RunsAnew, InRepro};
+ghost use Rattle.repro_core.specs.Steps.{IsPlan, IsClear, IsEnd, IsEndOf, WasRun, IsEffort};
+
+use crate::Stage;
+use crate::looks::look_at_outputs;
+use crate::plan::Plan;
+use dvc_base::{Failed, Fault, Plain, Rel, Text};
+use std::alloc::Global;
+use world_api::{Exit, Job, World};
+
+/// Clears the stage's outputs, runs its job, and looks at what the job has left.
+pub(crate) fn run_anew<W: World>(
+    alloc: Global,
+    world: &mut W,
+    stage: &Stage,
+    plan: &Plan,
+) -> Result<(), Fault>
+    requires ready { IsReady stage.now }
+    requires plan { IsPlan stage.now plan.now }
+    requires folders { IsTrue W.tells → HasFolders (job_of stage.now) (W.history world.old).present.tree }
+    requires deps { IsTrue W.tells → dep_fault (W.history world.old).present.tree (dep_paths stage.now) ≡ None }
+    ensures answer { IsTrue W.tells → IfSome (W.history world.old).present.aside.fixed.effect (λ effect.
+        IsAnswer (fault_in result)
+        (outcome_fault stage.now (effect (invocation_of (job_of stage.now) (W.history world.old).present.tree)))) }
+    ensures headline { IsTrue W.tells → OnOk result (IfSome (W.history world.old).present.aside.fixed.effect (λ effect.
+        RunsAnew effect (stage.now ∷ []) (W.history world.old).present (W.history world.new).present)) }
+    ensures ran { IsTrue W.tells → Gains (fault_in result) (W.history world.old).present.aside.fixed.ran
+        (job_of stage.now ∷ []) (W.history world.new).present.aside.fixed.ran }
+    ensures moments { IsTrue W.tells →
+        Passes (InRepro (stage.now ∷ []) (W.history world.old).present) (W.history world.old) (W.history world.new) }
+    ensures cause { IsCounted (W.faults world.old) (W.faults world.new) (IsErrOf result WorldFault) }
+    ensures effort { IsEffort (fault_in result) }
+{
+    let Ok(()) = clear_outputs(world, plan.outs.as_slice()) else {
+        return Err(Fault::WorldFault);
+    };
+    run_job(alloc, world, &stage.name, &plan.job)?;
+    look_at_outputs(alloc, world, &stage.name, plan.outs.as_slice())
+}
+
+fn clear_outputs<W: World>(world: &mut W, outs: &[Rel]) -> Result<(), Failed>
+    requires { IsTrue (are_apart outs.now) }
+    ensures cleared { IsTrue W.tells → OnOk result (IsClear (W.history world.new).present.tree outs.now) }
+    ensures moments { IsTrue W.tells →
+        Passes (Keeps (is_in_any outs.now) (W.history world.old).present) (W.history world.old) (W.history world.new) }
+    ensures cause { HasCause (W.faults world.old) (W.faults world.new) result }
+{
+    for out in outs {
+        world.clear(out)?;
+    }
+    Ok(())
+}
+
+fn run_job<W: World>(alloc: Global, world: &mut W, name: &Text, job: &Job) -> Result<(), Fault>
+    requires texts { IsTrue (is_runnable job.now) }
+    requires folders { IsTrue W.tells → HasFolders job.now (W.history world.old).present.tree }
+    ensures ran { IsTrue W.tells → WasRun job.now name.now (fault_in result)
+        (W.history world.old).present (W.history world.new).present }
+    ensures moments { IsTrue W.tells →
+        Passes (InRun job.now (W.history world.old).present) (W.history world.old) (W.history world.new) }
+    ensures cause { IsCounted (W.faults world.old) (W.faults world.new) (IsErrOf result WorldFault) }
+    ensures end { IsEnd (fault_in result) }
+{
+    let Ok(exit) = world.run(job) else {
+        return Err(Fault::WorldFault);
+    };
+    check_end(alloc, name, &exit)
+}
+
+fn check_end(alloc: Global, name: &Text, exit: &Exit) -> Result<(), Fault>
+    ensures end { IsEndOf name.now exit.now.code (fault_in result) }
+    ensures kind { IsEnd (fault_in result) }
+{
+    if exit.code == 0 {
+        return Ok(());
+    }
+    Err(Fault::CommandFailed {
+        stage: name.copy(alloc)?,
+        code: exit.code,
+    })
+}

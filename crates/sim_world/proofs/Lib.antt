@@ -1,0 +1,6 @@
+pub mod ChangeLemmas
+pub mod EditLemmas
+pub mod EntryLemmas
+pub mod LogLemmas
+pub mod PipeLemmas
+pub mod RunLemmas

@@ -1,0 +1,49 @@
+-- What an edit and a run make of a tree.
+--     edited_tree at v t     the value stands at the path, in place of what stood there, and folders above it
+--     left_tree at v t       the same, where the folder above stands; else nothing changes
+use Rattle.std.specs.Prelude.{ℕ, zero, suc, Bool, true, false, not, [], ◌∷◌, length, Option, Some, if◌then◌else◌}
+use Rattle.std.specs.FinMap.{insert, retain_keys}
+use Rattle.dvc_base.specs.Path.{Path, under}
+use Rattle.world_api.specs.Tree.{Tree, Item, folder, file, item_at}
+use Rattle.world_api.specs.Calls.{parent}
+use Rattle.sim_world.specs.declared.value.Value.{Value}
+use Rattle.sim_world.specs.declared.value.Value.TheVariants.{Nothing, File}
+
+abbrev pub is_root : Path → Bool
+is_root [] = true
+is_root (c ∷ p) = false
+
+-- without what stands at or below the path
+abbrev pub without : Path → Tree → Tree
+without at t = retain_keys t (λ p. not (under at p))
+
+-- a folder at the path of n components, and at each path above it; a file there gives way
+abbrev pub with_folders : ℕ → Path → Tree → Tree
+with_folders zero at t = t
+with_folders (suc n) at t = insert (with_folders n (parent at) t) at folder
+
+abbrev pub folders_above : Path → Tree → Tree
+folders_above at t = with_folders (length (parent at)) (parent at) t
+
+abbrev pub put_value : Path → Value → Tree → Tree
+put_value at Nothing t = t
+put_value at (File bytes) t = insert (folders_above at t) at (file bytes)
+
+-- the root can't be edited
+abbrev pub edited_tree : Path → Value → Tree → Tree
+edited_tree at value t = if is_root at then t else put_value at value (without at t)
+
+abbrev pub is_folder : Option Item → Bool
+is_folder (Some folder) = true
+is_folder _ = false
+
+-- whether a path isn't the root, and the folder above it stands
+abbrev pub has_place : Tree → Path → Bool
+has_place t at = if is_root at then false else is_folder (item_at t (parent at))
+
+abbrev pub place : Path → Value → Tree → Tree
+place at Nothing t = t
+place at (File bytes) t = insert t at (file bytes)
+
+abbrev pub left_tree : Path → Value → Tree → Tree
+left_tree at value t = if has_place t at then place at value (without at t) else t

@@ -1,0 +1,12 @@
+pub mod Answer
+pub mod Applied
+pub mod Change
+pub mod Edits
+pub mod Entries
+pub mod Found
+pub mod Pipe
+pub mod Run
+pub mod Stands
+pub mod Step
+pub mod Sunk
+pub mod TreeCode

@@ -1,0 +1,22 @@
+//! A world in memory, which tells all that it holds; a sink in memory; and a rule that answers a few commands.
+#![tactic(auto)]
+
+mod change;
+mod files;
+mod pipe;
+mod rule;
+mod shell;
+mod sink;
+mod tree;
+mod value;
+mod world;
+
+pub use pipe::Pipe;
+pub use rule::{Given, Made, Rule};
+pub use sink::MemSink;
+pub use tree::Tree;
+pub use value::{PathValue, PathValues, Value};
+pub use world::{Jobs, SimWorld};
+
+#[cfg(test)]
+mod tests;

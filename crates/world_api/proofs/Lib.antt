@@ -1,0 +1,4 @@
+pub mod HistoryLemmas
+pub mod OutputLemmas
+pub mod TreeLemmas
+pub mod ValueLemmas
