@@ -2,6 +2,8 @@
 #![tactic(auto)]
 
 #[cfg(test)]
+mod conformance;
+#[cfg(test)]
 mod tests;
 
 use dvc_base::{NoMemory, Text, Texts};

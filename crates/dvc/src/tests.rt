@@ -1,8 +1,11 @@
 // The worked example and its variants, over the memory world.
+use crate::conformance::conforms;
 use dvc_base::{Bytes, Numbers, Rel, Text, Texts};
 use dvc_cli::dvc;
+use real_world::RealWorld;
 use sim_world::{MemSink, Pipe, SimWorld, Tree, Value};
 use std::alloc::Global;
+use std::fs;
 use std::process::Abort;
 use std::test::Fail;
 
@@ -230,6 +233,19 @@ fn a_failing_error_output_changes_nothing(rt: HostRuntime) -> Result<(), Fail> {
         assert_eq!(rt; world.jobs().as_slice().len(), 1);
     }
     Ok(())
+}
+
+// One suite of calls of the traits, in memory and on real files.
+#[test]
+fn both_worlds_conform(rt: HostRuntime) -> Result<(), Fail> {
+    let alloc = rt.alloc();
+    let mut memory = project(alloc, &[("d/e", "x")])?;
+    conforms(alloc, &mut memory)?;
+    fs::create_dir_all(&rt, "world/d")?;
+    fs::write(&rt, "world/in", "abc")?;
+    fs::write(&rt, "world/d/e", "x")?;
+    let mut real = RealWorld::new(rt.clone()?, alloc, "world")?;
+    conforms(alloc, &mut real)
 }
 
 // A world with `in` holding `abc`, and these files.
