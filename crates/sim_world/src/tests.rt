@@ -6,6 +6,7 @@ ghost use Rattle.world_api.specs.Calls.{is_runnable, HasFolders};
 use crate::{Given, Made, MemSink, PathValue, PathValues, Pipe, Rule, SimWorld, Tree, Value};
 use dvc_base::{Bytes, NoMemory, Numbers, Plain, Rel, Text, Texts};
 use std::alloc::Global;
+use std::process::Abort;
 use std::test::Fail;
 use world_api::{Files, Job, Kind, Shell, Sink};
 
@@ -69,15 +70,26 @@ fn the_rule_answers_its_commands(rt: HostRuntime) -> Result<(), Fail> {
         ("ls a", 127, Some(b"old")),
         ("", 127, Some(b"old")),
     ];
-    let alloc = rt.alloc();
     for (command, code, bytes) in cases {
-        let mut outs = PathValues::new(alloc);
-        outs.push(file_value(alloc, "x", b"old")?)?;
-        let mut made = Made { outs };
-        let exit = Pipe::answer(alloc, &given(alloc, command)?, &mut made)?;
-        assert_eq!(rt; exit.code, code, "{command}");
-        assert!(rt; made_at(&made, "x") == bytes, "{command}");
+        answers(&rt, rt.alloc(), command, code, bytes)?;
     }
+    Ok(())
+}
+
+// Whether the command ends with the code and leaves the bytes at `x`, where `old` was made before.
+fn answers(
+    rt: &impl Abort,
+    alloc: Global,
+    command: &str,
+    code: i32,
+    bytes: Option<&[u8]>,
+) -> Result<(), Fail> {
+    let mut outs = PathValues::new(alloc);
+    outs.push(file_value(alloc, "x", b"old")?)?;
+    let mut made = Made { outs };
+    let exit = Pipe::answer(alloc, &given(alloc, command)?, &mut made)?;
+    assert_eq!(rt; exit.code, code, "{command}");
+    assert!(rt; made_at(&made, "x") == bytes, "{command}");
     Ok(())
 }
 
@@ -88,27 +100,38 @@ fn path(alloc: Global, text: &str) -> Result<Rel, Fail> {
 #[test]
 fn an_edit_is_seen(rt: HostRuntime) -> Result<(), Fail> {
     let alloc = rt.alloc();
-    let tree = Tree::new(alloc);
-    let mut world = SimWorld::<Pipe>::new(alloc, tree.copy(alloc)?)?;
+    let mut world = SimWorld::<Pipe>::new(alloc, Tree::new(alloc).copy(alloc)?)?;
     let folder = path(alloc, "data")?;
     let file = path(alloc, "data/raw")?;
-    assert!(rt; !folder.parts().is_empty());
-    assert!(rt; !file.parts().is_empty());
-    let entry = file_value(alloc, "data/raw", b"12")?.copy(alloc)?;
-
-    world.edit(&file, &entry.value)?;
+    put(&rt, &mut world, &file)?;
     assert!(rt; world.tree().kind(&folder) == Kind::Folder);
     assert!(rt; world.tree().file(&file) == Some(b"12".as_slice()));
 
     // A file takes the folder's place, and what lay in it is gone.
-    world.edit(&folder, &entry.value)?;
+    put(&rt, &mut world, &folder)?;
     assert!(rt; world.tree().kind(&folder) == Kind::File { size: 2 });
     assert!(rt; world.tree().kind(&file) == Kind::Missing);
+    Ok(())
+}
 
-    world.clear(&folder)?;
-    assert!(rt; world.kind(&folder)? == Kind::Missing);
+#[test]
+fn a_clear_is_seen(rt: HostRuntime) -> Result<(), Fail> {
+    let alloc = rt.alloc();
+    let mut world = SimWorld::<Pipe>::new(alloc, Tree::new(alloc))?;
+    let file = path(alloc, "data/raw")?;
+    put(&rt, &mut world, &file)?;
+    assert!(rt; !file.parts().is_empty());
+    world.clear(&file)?;
+    assert!(rt; world.kind(&file)? == Kind::Missing);
     assert_eq!(rt; world.starved(), 0);
-    assert_eq!(rt; world.jobs().as_slice().len(), 0);
+    Ok(())
+}
+
+// Puts two bytes at the path, which isn't the root.
+fn put(rt: &impl Abort, world: &mut SimWorld<Pipe>, at: &Rel) -> Result<(), Fail> {
+    assert!(rt; !at.parts().is_empty());
+    let value = Value::File(Bytes::of(world.alloc(), b"12")?);
+    world.edit(at, &value.copy(world.alloc())?)?;
     Ok(())
 }
 
@@ -153,19 +176,19 @@ fn job(alloc: Global, command: &str) -> Result<Job, NoMemory>
 fn a_run_leaves_its_output(rt: HostRuntime) -> Result<(), Fail> {
     let alloc = rt.alloc();
     let mut world = SimWorld::<Pipe>::new(alloc, Tree::new(alloc))?;
-    let source = path(alloc, "a")?;
-    let output = path(alloc, "x")?;
-    assert!(rt; !source.parts().is_empty());
-    let entry = file_value(alloc, "a", b"12")?;
-    world.edit(&source, &entry.value)?;
-
-    let exit = world.run(&job(alloc, "cat a > x")?)?;
-    assert_eq!(rt; exit.code, 0);
-    assert!(rt; world.tree().file(&output) == Some(b"12".as_slice()));
-
-    let exit = world.run(&job(alloc, "exit 3")?)?;
-    assert_eq!(rt; exit.code, 3);
-    assert!(rt; world.tree().file(&output) == Some(b"12".as_slice()));
+    put(&rt, &mut world, &path(alloc, "a")?)?;
+    runs(&rt, &mut world, "cat a > x", 0)?;
+    runs(&rt, &mut world, "exit 3", 3)?;
     assert_eq!(rt; world.jobs().as_slice().len(), 2);
+    Ok(())
+}
+
+// Whether the command ends with the code; the output holds what the first command left.
+fn runs(rt: &impl Abort, world: &mut SimWorld<Pipe>, command: &str, code: i32) -> Result<(), Fail> {
+    let job = job(world.alloc(), command)?;
+    let exit = world.run(&job)?;
+    assert_eq!(rt; exit.code, code);
+    let output = path(world.alloc(), "x")?;
+    assert!(rt; world.tree().file(&output) == Some(b"12".as_slice()));
     Ok(())
 }
