@@ -206,7 +206,7 @@ fn each_failing_put_is_an_output_fault(rt: HostRuntime) -> Result<(), Fail> {
         if done.status == 0 {
             break;
         }
-        failed += 1u32;
+        failed = put;
         assert_eq!(rt; done.status, 255);
         assert_eq!(rt;
             err.bytes(),
