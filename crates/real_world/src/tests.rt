@@ -1,4 +1,4 @@
-// Real files, in the empty folder in which a test starts.
+// Real files. Each test has a folder of its own below `out`, which is never kept.
 use crate::commands::shell_of;
 use crate::places::place_of;
 use crate::{RealSink, RealWorld};
@@ -11,9 +11,10 @@ use world_api::{Exit, Files, Job, Kind, Shell, Sink};
 
 const PIECE: usize = 65_536;
 
-// A file, an empty one, a folder, and links to them, to nothing, to a device and to itself.
-const LAYOUT: &str = "printf abc > file; : > empty; mkdir -p folder/deeper; printf x > folder/inner
-    ln -s file to_file; ln -s folder to_folder; ln -s nothing broken; ln -s /dev/null to_device
+// A file, an empty one, a pipe, a folder, and links to them, to nothing and to itself.
+const LAYOUT: &str =
+    "printf abc > file; : > empty; mkfifo pipe; mkdir -p folder/deeper; printf x > folder/inner
+    ln -s file to_file; ln -s folder to_folder; ln -s nothing broken; ln -s pipe to_pipe
     ln -s round round";
 
 // A world in a folder of the test's own, and how many of its calls must have failed by now.
@@ -29,7 +30,7 @@ impl<'a> Trial<'a> {
     // The world that a script has laid out.
     fn new(rt: HostRuntime, folder: &'a str, layout: &str) -> Result<Trial<'a>, Fail> {
         let _ = fs::remove_dir_all(&rt, folder);
-        fs::create_dir(&rt, folder)?;
+        fs::create_dir_all(&rt, folder)?;
         let world = RealWorld::new(rt.clone()?, rt.alloc(), folder)?;
         let trial = Trial {
             rt,
@@ -39,6 +40,11 @@ impl<'a> Trial<'a> {
         };
         trial.script(layout)?;
         Ok(trial)
+    }
+
+    // Leaves nothing behind.
+    fn end(self) -> Result<(), Fail> {
+        Ok(fs::remove_dir_all(&self.rt, self.folder)?)
     }
 
     // Runs what the tool doesn't. It must end well.
@@ -127,7 +133,7 @@ fn texts(alloc: Global, items: &[&str]) -> Result<Texts, Fail> {
 
 #[test]
 fn kind_tells_each_sort_of_thing(rt: HostRuntime) -> Result<(), Fail> {
-    let mut trial = Trial::new(rt, "kind_tells_each_sort_of_thing", LAYOUT)?;
+    let mut trial = Trial::new(rt, "out/kind_tells_each_sort_of_thing", LAYOUT)?;
     for (text, kind) in [
         (".", Ok(Kind::Folder)),
         ("missing", Ok(Kind::Missing)),
@@ -142,17 +148,18 @@ fn kind_tells_each_sort_of_thing(rt: HostRuntime) -> Result<(), Fail> {
         ("to_folder", Ok(Kind::Folder)),
         ("to_folder/inner", Ok(Kind::File { size: 1 })),
         ("broken", Ok(Kind::Missing)),
-        ("to_device", Err(Failed)),
+        ("pipe", Err(Failed)),
+        ("to_pipe", Err(Failed)),
         ("round", Err(Failed)),
     ] {
         trial.kind(text, kind)?;
     }
-    Ok(())
+    trial.end()
 }
 
 #[test]
 fn reading_gives_bytes_of_files_alone(rt: HostRuntime) -> Result<(), Fail> {
-    let mut trial = Trial::new(rt, "reading_gives_bytes_of_files_alone", LAYOUT)?;
+    let mut trial = Trial::new(rt, "out/reading_gives_bytes_of_files_alone", LAYOUT)?;
     for (text, from, want) in [
         ("file", 0, Some("abc")),
         ("file", 2, Some("c")),
@@ -169,12 +176,12 @@ fn reading_gives_bytes_of_files_alone(rt: HostRuntime) -> Result<(), Fail> {
     ] {
         trial.read(text, from, want)?;
     }
-    Ok(())
+    trial.end()
 }
 
 #[test]
 fn a_name_has_at_most_255_bytes(rt: HostRuntime) -> Result<(), Fail> {
-    let mut trial = Trial::new(rt, "a_name_has_at_most_255_bytes", "")?;
+    let mut trial = Trial::new(rt, "out/a_name_has_at_most_255_bytes", "")?;
     for (bytes, size, text) in [(255, Ok(3), Some("abc")), (256, Err(Failed), None)] {
         let name = String::from_utf8(Vec::from_elem(trial.rt.alloc(), b'n', bytes)?)?;
         let layout = format!(in trial.rt.alloc();
@@ -185,29 +192,30 @@ fn a_name_has_at_most_255_bytes(rt: HostRuntime) -> Result<(), Fail> {
         trial.read(name.as_str(), 0, text)?;
         trial.clear(name.as_str(), size.map(|_| ()))?;
     }
-    Ok(())
+    trial.end()
 }
 
 #[test]
 fn a_file_may_shrink_before_it_is_read(rt: HostRuntime) -> Result<(), Fail> {
     let mut trial = Trial::new(
         rt,
-        "a_file_may_shrink_before_it_is_read",
+        "out/a_file_may_shrink_before_it_is_read",
         "printf 0123456789 > file",
     )?;
     trial.kind("file", Ok(Kind::File { size: 10 }))?;
     trial.script("printf 012 > file")?;
     trial.read("file", 0, Some("012"))?;
-    trial.read("file", 7, Some(""))
+    trial.read("file", 7, Some(""))?;
+    trial.end()
 }
 
 // The superuser reads and clears what nobody else may, and skips this.
 #[test]
 fn what_may_not_be_touched_fails(rt: HostRuntime) -> Result<(), Fail> {
-    let mut trial = Trial::new(rt, "what_may_not_be_touched_fails", LAYOUT)?;
+    let mut trial = Trial::new(rt, "out/what_may_not_be_touched_fails", LAYOUT)?;
     trial.script("chmod 000 file; chmod 555 folder")?;
     if fs::open(&trial.rt, trial.place("file")?).is_ok() {
-        return Ok(());
+        return trial.end();
     }
     trial.kind("file", Ok(Kind::File { size: 3 }))?;
     trial.read("file", 0, None)?;
@@ -215,7 +223,8 @@ fn what_may_not_be_touched_fails(rt: HostRuntime) -> Result<(), Fail> {
     trial.clear("folder", Err(Failed))?;
     trial.script("test -f folder/inner && chmod 000 folder")?;
     trial.kind("folder/inner", Err(Failed))?;
-    trial.script("chmod 755 folder")
+    trial.script("chmod 755 folder")?;
+    trial.end()
 }
 
 // The byte of a numbered file at an offset.
@@ -254,7 +263,7 @@ fn read_piece(trial: &mut Trial, size: usize, from: usize) -> Result<(), Fail> {
 
 #[test]
 fn a_piece_is_read_from_each_offset(rt: HostRuntime) -> Result<(), Fail> {
-    let mut trial = Trial::new(rt, "a_piece_is_read_from_each_offset", "")?;
+    let mut trial = Trial::new(rt, "out/a_piece_is_read_from_each_offset", "")?;
     for size in [65_535, 65_536, 65_537] {
         let bytes = numbered(trial.rt.alloc(), size)?;
         fs::write(&trial.rt, trial.place("numbered")?, bytes.as_slice())?;
@@ -262,12 +271,12 @@ fn a_piece_is_read_from_each_offset(rt: HostRuntime) -> Result<(), Fail> {
             read_piece(&mut trial, size, from)?;
         }
     }
-    Ok(())
+    trial.end()
 }
 
 #[test]
 fn clear_takes_away_just_what_stands_there(rt: HostRuntime) -> Result<(), Fail> {
-    let mut trial = Trial::new(rt, "clear_takes_away_just_what_stands_there", LAYOUT)?;
+    let mut trial = Trial::new(rt, "out/clear_takes_away_just_what_stands_there", LAYOUT)?;
     trial.script(
         "mkdir -p deep/a/b/c/d/e/f/g/h/i/j/k/l/m/n/o/p/q/r/s/t/u/v/w/x/y/z
         printf x > deep/a/b/c/file; ln -s ../../folder deep/a/b/link",
@@ -279,7 +288,7 @@ fn clear_takes_away_just_what_stands_there(rt: HostRuntime) -> Result<(), Fail> 
         "to_file",
         "to_folder",
         "broken",
-        "to_device",
+        "to_pipe",
         "round",
         "deep",
         "empty",
@@ -287,16 +296,18 @@ fn clear_takes_away_just_what_stands_there(rt: HostRuntime) -> Result<(), Fail> 
         trial.clear(text, Ok(()))?;
     }
     trial.script(
-        "test \"$(echo *)\" = 'file folder' && test -c /dev/null
+        "test \"$(echo *)\" = 'file folder pipe'
         test -f folder/inner && test -d folder/deeper",
     )?;
     trial.clear("folder", Ok(()))?;
-    trial.script("test \"$(echo *)\" = file")
+    trial.clear("pipe", Ok(()))?;
+    trial.script("test \"$(echo *)\" = file")?;
+    trial.end()
 }
 
 #[test]
 fn a_job_ends_with_the_code_of_its_last_command(rt: HostRuntime) -> Result<(), Fail> {
-    let mut trial = Trial::new(rt, "a_job_ends_with_the_code_of_its_last_command", "")?;
+    let mut trial = Trial::new(rt, "out/a_job_ends_with_the_code_of_its_last_command", "")?;
     for (first, second, code) in [
         ("true", "true", 0),
         ("printf one > first", "printf two > second", 0),
@@ -309,24 +320,27 @@ fn a_job_ends_with_the_code_of_its_last_command(rt: HostRuntime) -> Result<(), F
         trial.run(".", &[first, second], Ok(Exit { code }))?;
     }
     trial.run(".", &[], Ok(Exit { code: 0 }))?;
-    trial.script("test \"$(cat first second)\" = onetwo && ! test -e third")
+    trial.script("test \"$(cat first second)\" = onetwo && ! test -e third")?;
+    trial.end()
 }
 
 #[test]
 fn a_job_runs_in_its_folder(rt: HostRuntime) -> Result<(), Fail> {
-    let mut trial = Trial::new(rt, "a_job_runs_in_its_folder", LAYOUT)?;
+    let mut trial = Trial::new(rt, "out/a_job_runs_in_its_folder", LAYOUT)?;
     let commands = ["cat inner > copy", "cp ../file deeper/file"];
     trial.run("folder", &commands, Ok(Exit { code: 0 }))?;
-    trial.script("test \"$(cat folder/copy folder/deeper/file)\" = xabc")
+    trial.script("test \"$(cat folder/copy folder/deeper/file)\" = xabc")?;
+    trial.end()
 }
 
 #[test]
 fn a_shell_that_cannot_start_is_a_failure(rt: HostRuntime) -> Result<(), Fail> {
-    let mut trial = Trial::new(rt, "a_shell_that_cannot_start_is_a_failure", LAYOUT)?;
+    let mut trial = Trial::new(rt, "out/a_shell_that_cannot_start_is_a_failure", LAYOUT)?;
     for (dir, first) in [("missing", "true"), ("file", "true"), (".", "true\0")] {
         trial.run(dir, &[first, "printf after > after"], Err(Failed))?;
     }
-    trial.script("! test -e after")
+    trial.script("! test -e after")?;
+    trial.end()
 }
 
 #[test]
