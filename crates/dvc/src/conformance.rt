@@ -1,21 +1,24 @@
 // What every world answers to the same calls, told through the traits alone. The world that is handed in
 // holds a file `in` with `abc`, a folder `d` with a file `e` that holds `x`, and nothing else.
-ghost use Rattle.std.specs.Prelude.{◌≡◌, [], ◌∷◌, IsTrue, IfOk};
+ghost use Rattle.std.specs.Prelude.{◌≡◌, ◌≢◌, ℕ, true, [], ◌∷◌, IsTrue, IfOk};
+ghost use Rattle.world_api.specs.declared.files.Kind.TheVariants.{File, Folder};
 ghost use Rattle.world_api.specs.Tree.{Tree};
 ghost use Rattle.world_api.specs.Calls.{is_runnable, HasFolders, IsFileAt};
 
 use dvc_base::{Rel, Text, Texts};
+use repro_core::{lock_path, write_bytes};
 use std::alloc::Global;
 use std::fmt::Debug;
 use std::str;
 use std::test::Fail;
-use world_api::{Job, Kind, World};
+use world_api::{Job, Kind, World, dvc_path};
 
 /// Makes the calls, and answers an error at the first that isn't as the traits say.
 pub fn conforms<W: World>(alloc: Global, world: &mut W) -> Result<(), Fail> {
     looks(alloc, world)?;
     reads(alloc, world)?;
     runs(alloc, world)?;
+    writes(alloc, world)?;
     clears(alloc, world)
 }
 
@@ -69,6 +72,46 @@ fn clears<W: World>(alloc: Global, world: &mut W) -> Result<(), Fail> {
     holds(alloc, world, "in", 0, "abc")?;
     clear(alloc, world, "in")?;
     stands(alloc, world, "in", Kind::Missing)
+}
+
+// Each write takes the place of what stood there, and leaves no lane.
+fn writes<W: World>(alloc: Global, world: &mut W) -> Result<(), Fail> {
+    stands(alloc, world, ".dvc", Kind::Missing)?;
+    for content in ["one", "", "two\n"] {
+        write(alloc, world, content)?;
+        holds(alloc, world, "dvc.lock", 0, content)?;
+        stands(alloc, world, ".dvc", Kind::Folder)?;
+        stands(alloc, world, ".dvc/tmp", Kind::Folder)?;
+        stands(alloc, world, ".dvc/tmp/new-0", Kind::Missing)?;
+    }
+    reads(alloc, world)
+}
+
+// Writes the lock's file. It is looked at first, since a folder is not written over.
+fn write<W: World>(alloc: Global, world: &mut W, content: &str) -> Result<(), Fail> {
+    let above = dvc_path(alloc)?;
+    let at = lock_path(alloc)?;
+    let folder = world.kind(&above)?;
+    let old = world.kind(&at)?;
+    if !is_no_file(folder) {
+        return Err(Fail::new("a file stands in the place of the tool's folder"));
+    }
+    if !is_no_folder(old) {
+        return Err(Fail::new("a folder stands in the place of the lock"));
+    }
+    same(write_bytes(world, &at, content.as_bytes()), Ok(()), content)
+}
+
+fn is_no_file(kind: Kind) -> bool
+    ensures { result ≡ true → (size : ℕ) → kind ≢ File size }
+{
+    !matches!(kind, Kind::File { .. })
+}
+
+fn is_no_folder(kind: Kind) -> bool
+    ensures { result ≡ true → kind ≢ Folder }
+{
+    !matches!(kind, Kind::Folder)
 }
 
 fn stands<W: World>(alloc: Global, world: &mut W, text: &str, kind: Kind) -> Result<(), Fail> {

@@ -1,4 +1,5 @@
-// The worked example and its variants, over the memory world.
+// The worked example and its variants, and what is chosen after edits, over the memory world.
+use crate::cases::{CASES, COPY, COPY_LINES, COPY_LOCK, Case, EXIT, NO_LOCK};
 use crate::conformance::conforms;
 use dvc_base::{Bytes, Numbers, Rel, Text, Texts};
 use dvc_cli::dvc;
@@ -9,162 +10,80 @@ use std::fs;
 use std::process::Abort;
 use std::test::Fail;
 
-const COPY: &str = "stages:\n  copy:\n    cmd: cat in\n    deps:\n    - in\n    outs:\n    - out\n";
+const TWO: &str =
+    "stages:\n  first:\n    cmd: cat in\n    deps:\n    - in\n    outs:\n    - mid\n  last:\n    cmd: cat mid\n    deps:\n    - mid\n    - in\n    outs:\n    - out\n";
 
-const EXIT: &str = "stages:\n  copy:\n    cmd: exit 3\n    deps:\n    - in\n    outs:\n    - out\n";
+const TWO_OTHER: &str =
+    "stages:\n  first:\n    cmd: cat in\n    deps:\n    - in\n    outs:\n    - mid\n  last:\n    cmd: cat in\n    deps:\n    - mid\n    - in\n    outs:\n    - out\n";
 
-const NO_FILE: &str =
-    "stages:\n  copy:\n    cmd: cat none\n    deps:\n    - none\n    outs:\n    - out\n";
-
-const NO_OUT: &str =
-    "stages:\n  copy:\n    cmd: exit 0\n    deps:\n    - in\n    outs:\n    - out\n";
-
-const CUT: &str = "stages:\n  copy:\n    cmd: cat in\n    deps:\n    - in\n    outs:\n";
-
-const COPY_LINES: &str = "Running stage 'copy':\n> cat in\n";
-
-const UNREAD: &str = "ERROR: 'dvc.yaml' is not supported yet\n";
-
-// A project, a command line, and what it must come to.
-struct Case {
+// An edit of a path, which removes what stands there where no text is given, and what the next `repro` puts.
+struct Step {
     name: &'static str,
-    // Files beside `in`, each with its text.
-    files: &'static [(&'static str, &'static str)],
-    words: &'static [&'static str],
-    status: u8,
+    path: &'static str,
+    text: Option<&'static str>,
     out: &'static str,
-    err: &'static str,
-    // What stands at `out` afterwards.
-    left: Option<&'static str>,
-    jobs: usize,
 }
 
-const CASES: [Case; 12] = [
-    Case {
-        name: "a stage copies its file",
-        files: &[("dvc.yaml", COPY)],
-        words: &["repro"],
-        status: 0,
-        out: COPY_LINES,
-        err: "",
-        left: Some("abc"),
-        jobs: 1,
+const STEPS: &[Step] = &[
+    Step {
+        name: "the first run",
+        path: "dvc.yaml",
+        text: Some(TWO),
+        out: "Running stage 'first':\n> cat in\nRunning stage 'last':\n> cat mid\n",
     },
-    Case {
-        name: "an old output is replaced",
-        files: &[("dvc.yaml", COPY), ("out", "old")],
-        words: &["repro"],
-        status: 0,
-        out: COPY_LINES,
-        err: "",
-        left: Some("abc"),
-        jobs: 1,
+    Step {
+        name: "nothing has changed",
+        path: "in",
+        text: Some("abc"),
+        out: "Stage 'first' didn't change, skipping\nStage 'last' didn't change, skipping\n",
     },
-    Case {
-        name: "a folder that stands at the output goes with all below it",
-        files: &[("dvc.yaml", COPY), ("out/a/b", "old")],
-        words: &["repro"],
-        status: 0,
-        out: COPY_LINES,
-        err: "",
-        left: Some("abc"),
-        jobs: 1,
+    Step {
+        name: "a dependency was edited",
+        path: "in",
+        text: Some("abd"),
+        out: "Running stage 'first':\n> cat in\nRunning stage 'last':\n> cat mid\n",
     },
-    Case {
-        name: "a command that fails",
-        files: &[("dvc.yaml", EXIT), ("out", "old")],
-        words: &["repro"],
-        status: 255,
-        out: "Running stage 'copy':\n> exit 3\n",
-        err: "ERROR: stage 'copy' failed with 3\n",
-        left: None,
-        jobs: 1,
+    Step {
+        name: "a command has changed",
+        path: "dvc.yaml",
+        text: Some(TWO_OTHER),
+        out: "Stage 'first' didn't change, skipping\nRunning stage 'last':\n> cat in\n",
     },
-    Case {
-        name: "a text without its last line",
-        files: &[("dvc.yaml", CUT), ("out", "old")],
-        words: &["repro"],
-        status: 255,
-        out: "",
-        err: UNREAD,
-        left: Some("old"),
-        jobs: 0,
+    Step {
+        name: "an output was edited",
+        path: "out",
+        text: Some("x"),
+        out: "Stage 'first' didn't change, skipping\nRunning stage 'last':\n> cat in\n",
     },
-    Case {
-        name: "no dvc.yaml",
-        files: &[("out", "old")],
-        words: &["repro"],
-        status: 255,
-        out: "",
-        err: UNREAD,
-        left: Some("old"),
-        jobs: 0,
+    Step {
+        name: "an output that the next stage reads was edited, and is made again as it was",
+        path: "mid",
+        text: Some("x"),
+        out: "Running stage 'first':\n> cat in\nStage 'last' didn't change, skipping\n",
     },
-    Case {
-        name: "a folder at dvc.yaml",
-        files: &[("dvc.yaml/a", "x")],
-        words: &["repro"],
-        status: 255,
-        out: "",
-        err: UNREAD,
-        left: None,
-        jobs: 0,
+    Step {
+        name: "an output was removed",
+        path: "out",
+        text: None,
+        out: "Stage 'first' didn't change, skipping\nRunning stage 'last':\n> cat in\n",
     },
-    Case {
-        name: "a lock stands",
-        files: &[("dvc.yaml", COPY), ("dvc.lock", "x"), ("out", "old")],
-        words: &["repro"],
-        status: 255,
-        out: "",
-        err: "ERROR: 'dvc.lock' is not supported yet\n",
-        left: Some("old"),
-        jobs: 0,
+    Step {
+        name: "the lock was removed",
+        path: "dvc.lock",
+        text: None,
+        out: "Running stage 'first':\n> cat in\nRunning stage 'last':\n> cat in\n",
     },
-    Case {
-        name: "no dependency",
-        files: &[("dvc.yaml", NO_FILE), ("out", "old")],
-        words: &["repro"],
-        status: 255,
-        out: "",
-        err: "ERROR: 'none' is not supported yet\n",
-        left: Some("old"),
-        jobs: 0,
-    },
-    Case {
-        name: "no output was made",
-        files: &[("dvc.yaml", NO_OUT), ("out", "old")],
-        words: &["repro"],
-        status: 255,
-        out: "Running stage 'copy':\n> exit 0\n",
-        err: "ERROR: stage 'copy': missing output 'out'\n",
-        left: None,
-        jobs: 1,
-    },
-    Case {
-        name: "no word",
-        files: &[("dvc.yaml", COPY)],
-        words: &[],
-        status: 254,
-        out: "",
-        err: "ERROR: the command line can't be read\n",
-        left: None,
-        jobs: 0,
-    },
-    Case {
-        name: "a word too many",
-        files: &[("dvc.yaml", COPY)],
-        words: &["repro", "copy"],
-        status: 254,
-        out: "",
-        err: "ERROR: the command line can't be read\n",
-        left: None,
-        jobs: 0,
+    Step {
+        name: "an edit that changes nothing",
+        path: "in",
+        text: Some("abd"),
+        out: "Stage 'first' didn't change, skipping\nStage 'last' didn't change, skipping\n",
     },
 ];
 
 #[test]
 fn each_case_comes_to_its_end(rt: HostRuntime) -> Result<(), Fail> {
-    for case in &CASES {
+    for case in CASES {
         meets(&rt, rt.alloc(), case)?;
     }
     Ok(())
@@ -181,14 +100,80 @@ fn meets(rt: &impl Abort, alloc: Global, case: &Case) -> Result<(), Fail> {
     assert_eq!(rt; out.bytes(), case.out.as_bytes(), "{}", case.name);
     assert_eq!(rt; err.bytes(), case.err.as_bytes(), "{}", case.name);
     assert_eq!(rt; world.jobs().as_slice().len(), case.jobs, "{}", case.name);
-    let output = Rel::root(alloc).join(alloc, "out")?;
-    let left = world.tree().file(&output);
+    let left = Rel::root(alloc).join(alloc, "out")?;
     assert_eq!(rt;
-        left,
+        world.tree().file(&left),
         case.left.map(|text| text.as_bytes()),
         "{}",
         case.name
     );
+    let lock = Rel::root(alloc).join(alloc, "dvc.lock")?;
+    assert_eq!(rt;
+        world.tree().file(&lock),
+        case.lock.map(|text| text.as_bytes()),
+        "{}",
+        case.name
+    );
+    Ok(())
+}
+
+// Two stages in a row: after each edit the stages are skipped or run as the definition says.
+#[test]
+fn each_choice_is_as_defined(rt: HostRuntime) -> Result<(), Fail> {
+    let alloc = rt.alloc();
+    let words = words(alloc, &["repro"])?;
+    let mut world = project(alloc, &[])?;
+    for step in STEPS {
+        edit(alloc, &mut world, step.path, step.text)?;
+        let mut out = sink(alloc, 0)?;
+        let mut err = sink(alloc, 0)?;
+        let done = dvc(alloc, &words, &mut world, &mut out, &mut err);
+        assert_eq!(rt; done.status, 0, "{}", step.name);
+        assert_eq!(rt; out.bytes(), step.out.as_bytes(), "{}", step.name);
+        assert!(rt; err.bytes().is_empty(), "{}", step.name);
+    }
+    Ok(())
+}
+
+// A lock that is cut at any place but its end is refused, with all as it was.
+#[test]
+fn each_cut_lock_is_refused(rt: HostRuntime) -> Result<(), Fail> {
+    for end in 0..COPY_LOCK.len() {
+        refuses_lock(&rt, rt.alloc(), &COPY_LOCK.as_bytes()[..end])?;
+    }
+    Ok(())
+}
+
+// So is one in which a byte was exchanged by one that stands nowhere in a lock.
+#[test]
+fn each_spoilt_lock_is_refused(rt: HostRuntime) -> Result<(), Fail> {
+    let alloc = rt.alloc();
+    for at in 0..COPY_LOCK.len() {
+        let mut text = Vec::new(alloc);
+        text.extend_from_slice(&COPY_LOCK.as_bytes()[..at])?;
+        text.push(b'~')?;
+        text.extend_from_slice(&COPY_LOCK.as_bytes()[at + 1..])?;
+        refuses_lock(&rt, alloc, &text)?;
+    }
+    Ok(())
+}
+
+fn refuses_lock(rt: &impl Abort, alloc: Global, text: &[u8]) -> Result<(), Fail> {
+    let mut world = project(alloc, &[("dvc.yaml", COPY), ("out", "old")])?;
+    let lock = Rel::root(alloc).join(alloc, "dvc.lock")?;
+    if lock.parts().is_empty() {
+        return Err(Fail::new("the lock is no root"));
+    }
+    world.edit(&lock, &Value::File(Bytes::of(alloc, text)?))?;
+    let words = words(alloc, &["repro"])?;
+    let mut out = sink(alloc, 0)?;
+    let mut err = sink(alloc, 0)?;
+    let done = dvc(alloc, &words, &mut world, &mut out, &mut err);
+    assert_eq!(rt; done.status, 255);
+    assert_eq!(rt; err.bytes(), NO_LOCK.as_bytes());
+    assert!(rt; out.bytes().is_empty());
+    assert_eq!(rt; world.tree().file(&lock), Some(text));
+    assert_eq!(rt; world.jobs().as_slice().len(), 0);
     Ok(())
 }
 
@@ -259,8 +244,20 @@ fn project(alloc: Global, files: &[(&str, &str)]) -> Result<SimWorld<Pipe>, Fail
 }
 
 fn put(alloc: Global, world: &mut SimWorld<Pipe>, path: &str, text: &str) -> Result<(), Fail> {
+    edit(alloc, world, path, Some(text))
+}
+
+fn edit(
+    alloc: Global,
+    world: &mut SimWorld<Pipe>,
+    path: &str,
+    text: Option<&str>,
+) -> Result<(), Fail> {
     let path = Rel::root(alloc).join(alloc, path)?;
-    let value = Value::File(Bytes::of(alloc, text.as_bytes())?);
+    let value = match text {
+        None => Value::Nothing,
+        Some(text) => Value::File(Bytes::of(alloc, text.as_bytes())?),
+    };
     if !path.parts().is_empty() {
         world.edit(&path, &value)?;
     }

@@ -17,10 +17,10 @@ pub record IsPiece (c : List ℕ) : Type 0 where
   pub no_slash : All (λ byte. byte ≢ 47) c
   pub no_nul : All (λ byte. byte ≢ 0) c
 
-IsPiece-nil : IsPiece []
+pub IsPiece-nil : IsPiece []
 IsPiece-nil = record { no_slash = All-nil (λ byte. byte ≢ 47); no_nul = All-nil (λ byte. byte ≢ 0) }
 
-IsPiece-cons : (x : ℕ) (c : List ℕ) → x ≢ 47 → x ≢ 0 → IsPiece c → IsPiece (x ∷ c)
+pub IsPiece-cons : (x : ℕ) (c : List ℕ) → x ≢ 47 → x ≢ 0 → IsPiece c → IsPiece (x ∷ c)
 IsPiece-cons x c a b h =
     record {
       no_slash = All-cons (λ byte. byte ≢ 47) x c a h.no_slash;

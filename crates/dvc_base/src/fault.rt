@@ -14,10 +14,14 @@ pub enum Fault {
     Changed { path: Rel, told: u64, found: u64 },
     /// What stands at the path is beyond what the tool can do so far.
     NotBuilt { file: Rel },
+    /// Nothing stands at this dependency of the stage.
+    MissingDependency { stage: Text, path: Rel },
     /// The stage's command ended with this code, which isn't 0.
     CommandFailed { stage: Text, code: i32 },
     /// The stage's command ended well and left nothing at this output.
     MissingOutput { stage: Text, path: Rel },
+    /// A file stands at the path, where a folder has to be.
+    NotFolder { path: Rel },
     /// A call to the files or to a program failed.
     WorldFault,
     /// The output could not be written.

@@ -4,12 +4,16 @@
 mod fault;
 mod list;
 mod memory;
+mod name;
+mod node;
 mod path;
 mod text;
 
 pub use fault::Fault;
 pub use list::{Numbers, Plural, Texts};
 pub use memory::{Failed, NoMemory, Plain};
+pub use name::Name;
+pub use node::{Node, Nodes, Pair, PairList, YamlFault};
 pub use path::{MAX_PATH, PathFault, Rel, is_at_or_below, is_same, lies_in, overlaps};
 pub use text::{Bytes, Text};
 
@@ -103,6 +107,33 @@ mod tests {
         let bytes = copied(alloc, &Bytes::of(alloc, b"\0\xff")?)?;
         assert_eq!(rt; bytes.as_slice(), [0, 255].as_slice());
         Ok(())
+    }
+
+    #[test]
+    fn names_are_read_and_written(rt: HostRuntime) -> Result<(), Fail> {
+        let alloc = rt.alloc();
+        let text = b"900150983cd24fb0d6963f7d28e17f72.dir";
+        for (len, place) in [
+            (32, "files/md5/90/0150983cd24fb0d6963f7d28e17f72"),
+            (36, "files/md5/90/0150983cd24fb0d6963f7d28e17f72.dir"),
+        ] {
+            let name = Name::parse(&text[..len]).expect(&rt, "a name");
+            let mut buffer = [b'-'; 36];
+            assert_eq!(rt; name.print(&mut buffer), len);
+            assert_eq!(rt; &buffer[..len], &text[..len]);
+            let path = name.place(alloc)?;
+            assert_eq!(rt; path.text(), place);
+        }
+        Ok(())
+    }
+
+    #[test]
+    fn other_texts_are_no_names(rt: HostRuntime) {
+        assert!(rt; Name::parse(b"").is_none());
+        assert!(rt; Name::parse(b"900150983cd24fb0d6963f7d28e17f7").is_none());
+        assert!(rt; Name::parse(b"900150983CD24FB0D6963F7D28E17F72").is_none());
+        assert!(rt; Name::parse(b"900150983cd24fb0d6963f7d28e17f7g").is_none());
+        assert!(rt; Name::parse(b"900150983cd24fb0d6963f7d28e17f72.DIR").is_none());
     }
 
     #[test]

@@ -73,6 +73,16 @@ impl Rel {
         }
     }
 
+    // The path of these components.
+    pub(crate) fn of_parts(alloc: Global, parts: Vec<Text>) -> Result<Rel, NoMemory>
+        requires normal { IsNormal parts.items }
+        requires short { length (joined parts.items) ≤ 1024 }
+        ensures same { IfOk result (λ path. path ≡ parts.items) }
+    {
+        let text = joined_text(alloc, &parts)?;
+        Ok(Rel { parts, text })
+    }
+
     /// A text read as a path from this one: empty components and `.` are dropped, and `..` goes up.
     pub fn join(&self, alloc: Global, text: &str) -> Result<Rel, PathFault>
         ensures read { MatchResult result

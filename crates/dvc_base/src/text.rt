@@ -60,6 +60,13 @@ impl Bytes {
         Ok(Bytes { bytes })
     }
 
+    /// The bytes of a vector, which are not copied.
+    pub fn from_vec(bytes: Vec<u8>) -> Bytes
+        ensures same { result ≡ bytes.items }
+    {
+        Bytes { bytes }
+    }
+
     pub fn as_slice(&self) -> &[u8]
         ensures same { result.now ≡ self.now }
     {

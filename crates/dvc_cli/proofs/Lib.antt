@@ -1,7 +1,11 @@
-pub mod FormBytes
-pub mod FormCuts
+pub mod DistinctLemmas
 pub mod FormLaw
 pub mod FormLemmas
+pub mod GraphLemmas
+pub mod LifeLaw
+pub mod PlaceLemmas
 pub mod PlanLemmas
 pub mod ReproLemmas
 pub mod TakesLemmas
+pub mod UsableLemmas
+pub mod WorkLemmas

@@ -1,117 +1,119 @@
--- The text of a `dvc.yaml` with one stage: seven lines, each with a line feed.
---     stages:
+-- The text of a `dvc.yaml` in the line form: the line `stages:`, and then for each stage
 --       NAME:
 --         cmd: WORDS
 --         deps:
---         - PATH
+--         - PATH          once or more
 --         outs:
---         - PATH
---     IsForm text f      the text is that of the form f, whose fields pass their tests: what a reader trusts
---     IsReading text s   a reader's answer: the stage of the only form that the text has, or none where it has none
---     form_of text       the form of a text, if it has one: its fields are cut out of its lines, and the text is
---                        accepted where the form prints as just this text
-use Rattle.std.specs.Prelude.{◌≡◌, ℕ, ◌-◌, Bool, false, not, ◌&&◌, ◌||◌, List, [], ◌∷◌, ◌++◌, length, take, drop, Option, Some, None, IsTrue, MatchOption, nat_le, ◌==◌, bytes_eq, codes, if◌then◌else◌, slice_index_or}
-use Rattle.std.specs.List.{list_all, list_any, slice_split}
+--         - PATH          once or more
+-- where each line ends with a line feed.
+--     IsForms text fs       the text is that of the forms, whose fields pass their tests: what a reader trusts
+--     IsReading text found  a reader's answer: the only forms that the text has, or none where it has none
+--     forms_of text         the forms of a text, if it has some: its lines are read by what stands in front of them, as some forms;
+--                           they are the text's where they print as just this text
+--     stages_of fs          the stages that the forms say
+use Rattle.std.specs.Prelude.{◌≡◌, ℕ, ◌-◌, Bool, true, false, not, ◌&&◌, List, [], ◌∷◌, ◌++◌, length, take, drop, map, Option, Some, None, IsTrue, ◌==◌, bytes_eq, codes, if◌then◌else◌, fold}
+use Rattle.std.specs.List.{list_all, flat_map, slice_split}
+use Rattle.lock_files.specs.Word.{is_name, is_command}
+use Rattle.repro_core.specs.Stage.{in_order}
+use Rattle.repro_core.specs.Lock.{is_among}
 use Rattle.repro_core.specs.declared.stage.Stage.{Stage}
-use Rattle.dvc_cli.specs.declared.form.Fields.{Fields}
 
 pub record Form : Type 0 where
   pub name : List ℕ
   pub command : List ℕ
-  pub dep : List ℕ
-  pub out : List ℕ
+  pub deps : List (List ℕ)
+  pub outs : List (List ℕ)
+
+-- ---- texts
+
+abbrev pub path_text : List ℕ → List ℕ
+path_text path = codes "    - " ++ (path ++ codes "\n")
 
 abbrev pub form_text : Form → List ℕ
 form_text f =
-    codes "stages:\n  " ++ (f.name ++ (codes ":\n    cmd: " ++ (f.command ++ (codes "\n    deps:\n    - "
-    ++ (f.dep ++ (codes "\n    outs:\n    - " ++ (f.out ++ codes "\n")))))))
+    codes "  " ++ (f.name ++ (codes ":\n    cmd: " ++ (f.command ++ (codes "\n    deps:\n"
+    ++ (flat_map path_text f.deps ++ (codes "    outs:\n" ++ flat_map path_text f.outs))))))
 
-abbrev pub is_letter : ℕ → Bool
-is_letter byte = nat_le 97 byte && nat_le byte 122
+abbrev pub forms_text : List Form → List ℕ
+forms_text fs = codes "stages:\n" ++ flat_map form_text fs
 
--- a lower-case letter, a digit or `_`
-abbrev pub is_word_byte : ℕ → Bool
-is_word_byte byte = is_letter byte || ((nat_le 48 byte && nat_le byte 57) || (byte == 95))
+-- ---- tests
 
--- the words that YAML takes for something else
-abbrev pub is_reserved : List ℕ → Bool
-is_reserved text = bytes_eq text (codes "null") || (bytes_eq text (codes "true") || bytes_eq text (codes "false"))
+abbrev pub are_distinct : List (List ℕ) → Bool
+are_distinct [] = true
+are_distinct (text ∷ texts) = not (is_among texts text) && are_distinct texts
 
-abbrev pub begins_with_letter : List ℕ → Bool
-begins_with_letter [] = false
-begins_with_letter (byte ∷ rest) = is_letter byte
-
--- a name or a path of the form: at most 1,024 bytes
-abbrev pub is_name : List ℕ → Bool
-is_name text = begins_with_letter text && (list_all is_word_byte text && (nat_le (length text) 1024 && not (is_reserved text)))
-
-abbrev pub is_word : List ℕ → Bool
-is_word word = not (length word == 0) && list_all is_word_byte word
-
--- at least two words with single spaces between them, the first of which begins with a letter
-abbrev pub is_command : List ℕ → Bool
-is_command text =
-    let words = slice_split (λ byte. byte == 32) text in
-    begins_with_letter text && (nat_le 2 (length words) && list_all is_word words)
+abbrev pub are_paths : List (List ℕ) → Bool
+are_paths texts = not (length texts == 0) && (list_all is_name texts && are_distinct texts)
 
 abbrev pub is_good : Form → Bool
-is_good f = is_name f.name && (is_command f.command && (is_name f.dep && (is_name f.out && not (bytes_eq f.dep f.out))))
+is_good f = is_name f.name && (is_command f.command && (are_paths f.deps && are_paths f.outs))
 
-pub record IsForm (text : List ℕ) (f : Form) : Type 0 where
-  pub printed : text ≡ form_text f
-  pub good : IsTrue (is_good f)
+abbrev pub are_good : List Form → Bool
+are_good fs = list_all is_good fs && are_distinct (map (λ f. f.name) fs)
 
--- a line of a text, from 0 on; the empty text where there are fewer
-abbrev pub line_at : List ℕ → ℕ → List ℕ
-line_at text n = slice_index_or (slice_split (λ byte. byte == 10) text) n []
+-- ---- readings
 
--- the fields as they stand in the lines, whatever else the text has
-abbrev pub fields_of : List ℕ → Form
-fields_of text = record {
-  name = take (length (line_at text 1) - 3) (drop 2 (line_at text 1));
-  command = drop 9 (line_at text 2);
-  dep = drop 6 (line_at text 4);
-  out = drop 6 (line_at text 6);
-}
+pub record IsForms (text : List ℕ) (fs : List Form) : Type 0 where
+  pub printed : text ≡ forms_text fs
+  pub good : IsTrue (are_good fs)
 
-abbrev pub form_of : List ℕ → Option Form
-form_of text =
-    let f = fields_of text in
-    if bytes_eq text (form_text f) && is_good f then Some f else None
-
--- the stage that the form says
+-- the stage that a form says. The order of its outputs tells nothing, so it is that of their bytes
 abbrev pub stage_of : Form → Stage
 stage_of f = record {
   name = f.name;
   commands = f.command ∷ [];
   dir = [];
-  deps = f.dep ∷ [];
-  outs = f.out ∷ [];
+  deps = f.deps;
+  outs = in_order f.outs;
 }
 
--- the stage of the only form that a text has; none where it has no form
-abbrev pub IsReading : List ℕ → Option Stage → Type 0
-IsReading text stage = MatchOption stage
-    ((f : Form) → ¬ IsForm text f)
-    (λ s. (f : Form) × (IsForm text f × (s ≡ stage_of f) × ((g : Form) → IsForm text g → g ≡ f)))
+abbrev pub stages_of : List Form → List Stage
+stages_of fs = map stage_of fs
 
--- ---- the words of the reader's own functions
+-- the stages of the only forms that a text has; none where it has no forms
+abbrev pub IsReading : List ℕ → Option (List Stage) → Type 0
+IsReading text None = (fs : List Form) → IsForms text fs → ⊥
+IsReading text (Some stages) =
+    (fs : List Form) × (IsForms text fs × (stages ≡ stages_of fs) × ((other : List Form) → IsForms text other → other ≡ fs))
 
--- a piece of a text: it stands between `before` and the first `end` after that, and the rest follows
-pub record IsCut (text before : List ℕ) (end : ℕ) (piece rest : List ℕ) : Type 0 where
-  pub whole : text ≡ before ++ (piece ++ end ∷ rest)
-  pub first : list_any (λ byte. byte == end) piece ≡ false
+-- ---- the lines of a text
 
--- the text prints as the form, whose fields may still fail their tests, and it has no other form
-pub record IsPrint (text : List ℕ) (f : Form) : Type 0 where
-  pub printed : text ≡ form_text f
-  pub only : (g : Form) → IsForm text g → g ≡ f
+-- what has been read: the last form may still get more paths
+pub record Reading : Type 0 where
+  pub forms : List Form
+  pub in_outs : Bool
 
--- the form that cut fields say
-abbrev pub form_in : Fields → Form
-form_in fields = record {
-  name = fields.name.now;
-  command = fields.command.now;
-  dep = fields.dep.now;
-  out = fields.out.now;
-}
+abbrev pub with_last : (Form → Form) → List Form → List Form
+with_last change [] = []
+with_last change (f ∷ []) = change f ∷ []
+with_last change (f ∷ next ∷ fs) = f ∷ with_last change (next ∷ fs)
+
+abbrev pub begins : List ℕ → List ℕ → Bool
+begins key line = bytes_eq (take (length key) line) key
+
+abbrev pub behind : List ℕ → List ℕ → List ℕ
+behind key line = drop (length key) line
+
+-- a form is begun: nothing but its name is read, behind which a colon stands
+abbrev pub begun : List ℕ → Form
+begun text = record { name = take (length text - 1) text; command = []; deps = []; outs = [] }
+
+abbrev pub with_path : Bool → List ℕ → Form → Form
+with_path in_outs path f =
+    if in_outs then record f { outs = f.outs ++ path ∷ [] } else record f { deps = f.deps ++ path ∷ [] }
+
+abbrev pub read_line : Reading → List ℕ → Reading
+read_line r line =
+    if begins (codes "    - ") line then record r { forms = with_last (with_path r.in_outs (behind (codes "    - ") line)) r.forms }
+    else if begins (codes "    cmd: ") line then record r { forms = with_last (λ f. record f { command = behind (codes "    cmd: ") line }) r.forms }
+    else if begins (codes "    deps:") line then record r { in_outs = false }
+    else if begins (codes "    outs:") line then record r { in_outs = true }
+    else if begins (codes "  ") line then record { forms = r.forms ++ begun (behind (codes "  ") line) ∷ []; in_outs = false }
+    else r
+
+abbrev pub forms_in : List ℕ → List Form
+forms_in text = (fold read_line (record { forms = []; in_outs = false }) (slice_split (λ byte. byte == 10) text)).forms
+
+abbrev pub forms_of : List ℕ → Option (List Form)
+forms_of text = let fs = forms_in text in if bytes_eq text (forms_text fs) && are_good fs then Some fs else None

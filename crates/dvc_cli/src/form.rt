@@ -1,183 +1,139 @@
-// `dvc.yaml` in the one-stage form.
-ghost use Rattle.std.specs.Prelude.{◌≡◌, ◌==◌, ℕ, ◌&&◌, List, [], ◌∷◌, IfOk, IsTrue, MatchOption, nat_le, length, option_map};
-ghost use Rattle.std.specs.List.{list_all, position, slice_split};
+// `dvc.yaml` in the line form.
+ghost use Rattle.std.specs.Prelude.{◌≡◌, IsTrue, IfOk, map, option_map};
+ghost use Rattle.std.specs.List.{list_all};
 ghost use Rattle.std.specs.Str.{IsAscii};
-ghost use Rattle.dvc_cli.specs.Form.{form_of, stage_of, is_letter, is_word_byte, is_reserved, begins_with_letter, is_name, is_word, is_command, is_good, Form, form_in, IsForm, IsPrint, IsReading, IsCut};
+ghost use Rattle.lock_files.specs.Word.{is_name};
+ghost use Rattle.dvc_cli.specs.Form.{are_distinct, are_paths, is_good, are_good, stage_of, forms_of, stages_of, IsReading};
 
+use crate::lines::{Fields, read_lines};
+use crate::print::print_forms;
 use dvc_base::{NoMemory, Rel, Text, Texts};
-use repro_core::Stage;
+use lock_files::{is_command, is_name};
+use repro_core::{Stage, Stages, in_order};
 use std::alloc::Global;
+use std::collections::BTreeSet;
 
-// The most bytes that a name or a path of the form may have.
-const MAX_NAME: usize = 1024;
-
-// The fields of a text, as they stand in it.
-#[derive(Clone, Copy)]
-struct Fields<'a> {
-    name: &'a [u8],
-    command: &'a [u8],
-    dep: &'a [u8],
-    out: &'a [u8],
-}
-
-/// The stage of a text in the one-stage form, or `None` for any other text.
-pub fn read_form(alloc: Global, text: &[u8]) -> Result<Option<Stage>, NoMemory>
-    ensures read { IfOk result (λ stage. stage ≡ option_map stage_of (form_of text.now)) }
+/// The stages of a text in the line form, or `None` for any other text.
+pub fn read_form(alloc: Global, text: &[u8]) -> Result<Option<Stages>, NoMemory>
+    ensures read { IfOk result (λ stages. stages ≡ option_map stages_of (forms_of text.now)) }
     ensures form { IfOk result (IsReading text.now) }
 {
-    match good_fields(text) {
+    match good_forms(alloc, text)? {
         None => Ok(None),
-        Some(fields) => Ok(Some(stage_from(alloc, &fields)?)),
+        Some(forms) => Ok(Some(stages_from(alloc, &forms)?)),
     }
 }
 
-// The fields of a text in the form.
-fn good_fields(text: &[u8]) -> Option<Fields<'_>>
-    ensures by_form { MatchOption result
-        ((f : Form) → ¬ IsForm text.now f)
-        (λ fields. IsForm text.now (form_in fields)) }
+// The forms of a text that prints as just this text, and whose fields pass their tests.
+fn good_forms(alloc: Global, text: &[u8]) -> Result<Option<Vec<Fields<'_>>>, NoMemory>
+    ensures read { IfOk result (λ forms. option_map (λ fs. fs.items) forms ≡ forms_of text.now) }
 {
-    let fields = cut_fields(text)?;
-    if are_good(&fields) {
-        Some(fields)
+    let forms = read_lines(alloc, text)?;
+    let printed = print_forms(alloc, &forms)?;
+    if text != printed.as_slice() {
+        return Ok(None);
+    }
+    if are_good(alloc, &forms)? {
+        Ok(Some(forms))
     } else {
-        None
+        Ok(None)
     }
 }
 
-// The fields of a text that prints as a form, whether or not they pass their tests.
-fn cut_fields(text: &[u8]) -> Option<Fields<'_>>
-    ensures by_print { MatchOption result
-        ((f : Form) → ¬ IsForm text.now f)
-        (λ fields. IsPrint text.now (form_in fields)) }
+fn are_good(alloc: Global, forms: &[Fields<'_>]) -> Result<bool, NoMemory>
+    ensures tested { IfOk result (λ good. good ≡ are_good forms.now) }
 {
-    let (name, text) = cut(text, b"stages:\n  ", b':')?;
-    let (command, text) = cut(text, b"\n    cmd: ", b'\n')?;
-    let (dep, text) = cut(text, b"    deps:\n    - ", b'\n')?;
-    let (out, text) = cut(text, b"    outs:\n    - ", b'\n')?;
-    if !text.is_empty() {
-        return None;
+    for form in forms {
+        if !is_good(alloc, form)? {
+            return Ok(false);
+        }
     }
-    Some(Fields {
-        name,
-        command,
-        dep,
-        out,
-    })
+    have_names(alloc, forms)
 }
 
-// What stands between `before`, with which the text begins, and the first `end` after it; and what follows.
-fn cut<'a>(text: &'a [u8], before: &[u8], end: u8) -> Option<(&'a [u8], &'a [u8])>
-    ensures by_parts { MatchOption result
-        ((piece rest : List ℕ) → ¬ IsCut text.now before.now end piece rest)
-        (λ parts. IsCut text.now before.now end parts.0.now parts.1.now) }
+// Whether no two of them have one name.
+fn have_names(alloc: Global, forms: &[Fields<'_>]) -> Result<bool, NoMemory>
+    ensures tested { IfOk result (λ named. named ≡ are_distinct (map (λ f. f.name) forms.now)) }
 {
-    let text = text.strip_prefix(before)?;
-    let found = place_of(text, end)?;
-    Some((&text[..found], &text[found + 1..]))
-}
-
-fn place_of(text: &[u8], byte: u8) -> Option<usize>
-    ensures first { result ≡ position (λ b. b == byte) text.now }
-{
-    text.iter().position(|b| *b == byte)
-}
-
-fn are_good(fields: &Fields<'_>) -> bool
-    ensures tested { result ≡ is_good (form_in fields.now) }
-{
-    is_name(fields.name)
-        && is_command(fields.command)
-        && is_name(fields.dep)
-        && is_name(fields.out)
-        && fields.dep != fields.out
-}
-
-fn is_name(text: &[u8]) -> bool
-    ensures tested { result ≡ is_name text.now }
-{
-    begins_with_letter(text) && are_word_bytes(text) && text.len() <= MAX_NAME && !is_reserved(text)
-}
-
-// Whether YAML takes the word for something else than a text.
-fn is_reserved(text: &[u8]) -> bool
-    ensures tested { result ≡ is_reserved text.now }
-{
-    text == b"null".as_slice() || text == b"true".as_slice() || text == b"false".as_slice()
-}
-
-fn is_command(text: &[u8]) -> bool
-    ensures tested { result ≡ is_command text.now }
-{
-    begins_with_letter(text) && has_words(text)
-}
-
-// Whether there are two words or more, with single spaces between them.
-fn has_words(text: &[u8]) -> bool
-    ensures tested { let words = slice_split (λ byte. byte == 32) text.now in result ≡ (nat_le 2 (length words) && list_all is_word words) }
-{
-    text.contains(&b' ') && are_words(text)
-}
-
-// Whether the pieces between the spaces are words.
-fn are_words(text: &[u8]) -> bool
-    ensures tested { result ≡ list_all is_word (slice_split (λ byte. byte == 32) text.now) }
-{
-    text.split(|byte| *byte == b' ').all(|word| is_word(word))
-}
-
-fn is_word(word: &[u8]) -> bool
-    ensures tested { result ≡ is_word word.now }
-{
-    !word.is_empty() && are_word_bytes(word)
-}
-
-fn are_word_bytes(text: &[u8]) -> bool
-    ensures tested { result ≡ list_all is_word_byte text.now }
-{
-    text.iter().all(|byte| is_word_byte(*byte))
-}
-
-fn begins_with_letter(text: &[u8]) -> bool
-    ensures tested { result ≡ begins_with_letter text.now }
-{
-    match text.first() {
-        None => false,
-        Some(byte) => is_letter(*byte),
+    let mut names = Vec::new(alloc);
+    for form in forms {
+        names.push(form.name)?;
     }
+    are_distinct(alloc, &names)
 }
 
-fn is_word_byte(byte: u8) -> bool
-    ensures tested { result ≡ is_word_byte byte }
+fn is_good(alloc: Global, form: &Fields<'_>) -> Result<bool, NoMemory>
+    ensures tested { IfOk result (λ good. good ≡ is_good form.now) }
 {
-    is_letter(byte) || byte.is_ascii_digit() || byte == b'_'
+    if !is_name(form.name) || !is_command(form.command) || !are_paths(alloc, &form.deps)? {
+        return Ok(false);
+    }
+    are_paths(alloc, &form.outs)
 }
 
-fn is_letter(byte: u8) -> bool
-    ensures tested { result ≡ is_letter byte }
+fn are_paths(alloc: Global, texts: &[&[u8]]) -> Result<bool, NoMemory>
+    ensures tested { IfOk result (λ paths. paths ≡ are_paths (map (λ text. text.now) texts.now)) }
 {
-    byte.is_ascii_lowercase()
+    if texts.is_empty() || !are_names(texts) {
+        return Ok(false);
+    }
+    are_distinct(alloc, texts)
 }
 
-fn stage_from(alloc: Global, fields: &Fields<'_>) -> Result<Stage, NoMemory>
-    requires { IsTrue (is_good (form_in fields.now)) }
-    ensures same { IfOk result (λ stage. stage ≡ stage_of (form_in fields.now)) }
+fn are_names(texts: &[&[u8]]) -> bool
+    ensures tested { result ≡ list_all is_name (map (λ text. text.now) texts.now) }
 {
+    texts.iter().all(|text| is_name(text))
+}
+
+// Whether no two of them are one.
+fn are_distinct(alloc: Global, texts: &[&[u8]]) -> Result<bool, NoMemory>
+    ensures tested { IfOk result (λ distinct. distinct ≡ are_distinct (map (λ text. text.now) texts.now)) }
+{
+    let mut seen = BTreeSet::new(alloc);
+    for text in texts {
+        if !seen.insert(*text)? {
+            return Ok(false);
+        }
+    }
+    Ok(true)
+}
+
+fn stages_from(alloc: Global, forms: &[Fields<'_>]) -> Result<Stages, NoMemory>
+    requires { IsTrue (list_all is_good forms.now) }
+    ensures same { IfOk result (λ stages. stages ≡ stages_of forms.now) }
+{
+    let mut stages = Stages::new(alloc);
+    for form in forms {
+        stages.push(stage_from(alloc, form)?)?;
+    }
+    Ok(stages)
+}
+
+fn stage_from(alloc: Global, form: &Fields<'_>) -> Result<Stage, NoMemory>
+    requires { IsTrue (is_good form.now) }
+    ensures same { IfOk result (λ stage. stage ≡ stage_of form.now) }
+{
+    let mut commands = Texts::new(alloc);
+    commands.push(text_of(alloc, form.command)?)?;
+    let outs = texts_of(alloc, &form.outs)?;
     Ok(Stage {
-        name: text_of(alloc, fields.name)?,
-        commands: one_text(alloc, fields.command)?,
+        name: text_of(alloc, form.name)?,
+        commands,
         dir: Rel::root(alloc),
-        deps: one_text(alloc, fields.dep)?,
-        outs: one_text(alloc, fields.out)?,
+        deps: texts_of(alloc, &form.deps)?,
+        outs: in_order(alloc, &outs)?,
     })
 }
 
-fn one_text(alloc: Global, bytes: &[u8]) -> Result<Texts, NoMemory>
-    requires { IsAscii bytes.now }
-    ensures same { IfOk result (λ texts. texts ≡ bytes.now ∷ []) }
+fn texts_of(alloc: Global, names: &[&[u8]]) -> Result<Texts, NoMemory>
+    requires { IsTrue (list_all is_name (map (λ name. name.now) names.now)) }
+    ensures same { IfOk result (λ texts. texts ≡ map (λ name. name.now) names.now) }
 {
     let mut texts = Texts::new(alloc);
-    texts.push(text_of(alloc, bytes)?)?;
+    for name in names {
+        texts.push(text_of(alloc, name)?)?;
+    }
     Ok(texts)
 }
 
@@ -197,16 +153,25 @@ mod tests {
     use std::alloc::AllocError;
     use std::test::Fail;
 
+    const TWO_STAGES: &[u8] =
+        b"stages:\n  by_name:\n    cmd: sort 2 names\n    deps:\n    - names\n    - more\n    outs:\n    - sorted\n    - counted\n  last:\n    cmd: tail sorted\n    deps:\n    - sorted\n    outs:\n    - end_1\n";
+
+    const ONE_NAME: &[u8] =
+        b"stages:\n  s:\n    cmd: sort a\n    deps:\n    - a\n    outs:\n    - b\n  s:\n    cmd: sort c\n    deps:\n    - c\n    outs:\n    - d\n";
+
+    const TWICE: &[u8] =
+        b"stages:\n  s:\n    cmd: sort a\n    deps:\n    - a\n    - b\n    - a\n    outs:\n    - c\n";
+
+    const OUTS_FIRST: &[u8] =
+        b"stages:\n  s:\n    cmd: sort a\n    outs:\n    - b\n    deps:\n    - a\n";
+
     const CRLF: &[u8] =
         b"stages:\r\n  s:\r\n    cmd: sort a\r\n    deps:\r\n    - a\r\n    outs:\r\n    - b\r\n";
-
-    const TWO_STAGES: &[u8] =
-        b"stages:\n  s:\n    cmd: sort a\n    deps:\n    - a\n    outs:\n    - b\n  t:\n";
 
     const NOT_UTF8: &[u8] =
         b"stages:\n  s:\n    cmd: sort \xff\n    deps:\n    - a\n    outs:\n    - b\n";
 
-    // The seven lines with these fields, whatever they are.
+    // The lines of one stage with these fields, whatever they are.
     fn lines(
         alloc: Global,
         name: &str,
@@ -219,25 +184,33 @@ mod tests {
         )
     }
 
-    // The one text of a list.
-    fn only(texts: &Texts) -> Option<&str> {
+    // The two texts of a list.
+    fn pair(texts: &Texts) -> Option<(&str, &str)> {
         match texts.as_slice() {
-            [text] => Some(text.as_str()),
+            [first, second] => Some((first.as_str(), second.as_str())),
+            _ => None,
+        }
+    }
+
+    // The two stages of a list.
+    fn two(stages: &Stages) -> Option<(&Stage, &Stage)> {
+        match stages.as_slice() {
+            [first, second] => Some((first, second)),
             _ => None,
         }
     }
 
     #[test]
-    fn the_seven_lines_are_read(rt: HostRuntime) -> Result<(), Fail> {
+    fn stages_are_read_with_outputs_in_order(rt: HostRuntime) -> Result<(), Fail> {
         let alloc = rt.alloc();
-        let text =
-            b"stages:\n  by_name:\n    cmd: sort 2 names\n    deps:\n    - names\n    outs:\n    - out_1\n";
-        let stage = read_form(alloc, text)?.ok_or("no stage")?;
-        assert_eq!(rt; stage.name.as_str(), "by_name");
-        assert_eq!(rt; only(&stage.commands), Some("sort 2 names"));
-        assert_eq!(rt; stage.dir.text(), ".");
-        assert_eq!(rt; only(&stage.deps), Some("names"));
-        assert_eq!(rt; only(&stage.outs), Some("out_1"));
+        let stages = read_form(alloc, TWO_STAGES)?.ok_or("no stages")?;
+        let (first, second) = two(&stages).ok_or("not two stages")?;
+        assert_eq!(rt; first.name.as_str(), "by_name");
+        assert_eq!(rt; pair(&first.deps), Some(("names", "more")));
+        assert_eq!(rt; pair(&first.outs), Some(("counted", "sorted")));
+        assert_eq!(rt; first.dir.text(), ".");
+        assert_eq!(rt; second.name.as_str(), "last");
+        assert!(rt; pair(&second.deps).is_none());
         Ok(())
     }
 
@@ -251,7 +224,6 @@ mod tests {
             ("a digit first", "s", "7z a", "a", "b"),
             ("null as a name", "null", "sort a", "a", "b"),
             ("a dot in a path", "s", "sort a", "a", "b.c"),
-            ("equal paths", "s", "sort a", "a", "a"),
         ];
         for (why, name, command, dep, out) in table {
             let text = lines(alloc, name, command, dep, out)?;
@@ -273,7 +245,9 @@ mod tests {
             ("without the last line", lines),
             ("without the last line feed", open),
             ("CRLF", CRLF),
-            ("two stages", TWO_STAGES),
+            ("two stages of one name", ONE_NAME),
+            ("a path that stands twice", TWICE),
+            ("outputs first", OUTS_FIRST),
             ("not UTF-8", NOT_UTF8),
         ];
         for (why, text) in table {

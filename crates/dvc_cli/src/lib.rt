@@ -2,11 +2,18 @@
 #![tactic(auto)]
 
 mod form;
+mod graph;
+mod law;
+mod lines;
 mod message;
 mod plan;
+mod print;
 mod read;
 mod top;
+mod work;
 
 pub use form::read_form;
+pub use law::life_law;
 pub use message::tell;
+pub use plan::read_stages;
 pub use top::{Done, dvc};

@@ -29,6 +29,14 @@ pub fn tell<K: Sink>(fault: &Fault, to: &mut K) -> Result<(), Failed>
                 to,
             )
         }
+        Fault::MissingDependency { stage, path } => {
+            let stage = stage.as_str().as_bytes();
+            let path = path.text().as_bytes();
+            put_line(
+                &[b"stage '", stage, b"': missing dependency '", path, b"'"],
+                to,
+            )
+        }
         Fault::CommandFailed { stage, code } => {
             let mut buffer = Buffer::new();
             let code = buffer.format(*code).as_bytes();
@@ -46,6 +54,9 @@ pub fn tell<K: Sink>(fault: &Fault, to: &mut K) -> Result<(), Failed>
             let stage = stage.as_str().as_bytes();
             let path = path.text().as_bytes();
             put_line(&[b"stage '", stage, b"': missing output '", path, b"'"], to)
+        }
+        Fault::NotFolder { path } => {
+            put_line(&[b"'", path.text().as_bytes(), b"' is not a folder"], to)
         }
         Fault::WorldFault => put_line(&[b"a file or program call failed"], to),
         Fault::OutFault => put_line(&[b"the output can't be written"], to),

@@ -10,7 +10,7 @@ faults_of f = record { origin = []; count = f.count }
 -- it stands where a history is asked for. No clause speaks of it, since nothing is told
 abbrev pub nothing_told : History
 nothing_told = record {
-  present = record { tree = empty; loose = λ p. false; aside = record { fixed = record { ran = []; effect = None } } };
+  present = record { tree = empty; loose = λ p. false; aside = record { fixed = record { ran = []; effect = None }; book = λ digest. None } };
   past = [];
   under = [];
 }

@@ -1,10 +1,12 @@
 // The files of a real folder.
-ghost use Rattle.std.specs.Prelude.{◌≢◌, ◌≤◌, [], length, IfOk};
+ghost use Rattle.std.specs.Prelude.{◌≡◌, ◌≢◌, ◌≤◌, false, [], length, IfOk};
+ghost use Rattle.dvc_base.specs.Path.{under};
+ghost use Rattle.world_api.specs.Writes.{lane_path};
 ghost use Rattle.real_world.specs.Counting.{Counts};
 
-use crate::RealWorld;
 use crate::findings::{is_missing, kind_of};
 use crate::places::place_of;
+use crate::{RealWorld, lanes};
 use dvc_base::{Failed, Rel};
 use std::io::{Read, Seek, SeekFrom};
 use std::process::Processes;
@@ -38,13 +40,42 @@ impl<R: Runtime + Processes + Send> Files for RealWorld<R> {
         self.failures.counted(removed)
     }
 
+    fn begin(&mut self, lane: u32) -> Result<(), Failed>
+        ensures counted { Counts self.old.failures.count self.new.failures.count result }
+    {
+        let begun = lanes::begin(self, lane);
+        self.failures.counted(begun)
+    }
+
+    fn append(&mut self, lane: u32, bytes: &[u8]) -> Result<(), Failed>
+        ensures counted { Counts self.old.failures.count self.new.failures.count result }
+    {
+        let appended = lanes::append(self, lane, bytes);
+        self.failures.counted(appended)
+    }
+
+    fn settle(&mut self, lane: u32) -> Result<(), Failed>
+        ensures counted { Counts self.old.failures.count self.new.failures.count result }
+    {
+        let settled = lanes::settle(self, lane);
+        self.failures.counted(settled)
+    }
+
+    fn publish(&mut self, lane: u32, at: &Rel) -> Result<(), Failed>
+        requires { under (lane_path lane) at.now ≡ false }
+        ensures counted { Counts self.old.failures.count self.new.failures.count result }
+    {
+        let published = lanes::publish(self, lane, at);
+        self.failures.counted(published)
+    }
+
     ghost use Rattle.std.proofs.lemmas.Bool.{false≢true};
 
     ghost stands = { λ world told. absurd (false≢true told) };
 }
 
 // A link is read as what it points to.
-fn look<R: Runtime>(world: &RealWorld<R>, at: &Rel) -> io::Result<Kind> {
+pub(crate) fn look<R: Runtime>(world: &RealWorld<R>, at: &Rel) -> io::Result<Kind> {
     let place = place_of(world.alloc, world.root.as_str(), at)?;
     kind_of(fs::metadata(&world.rt, place.as_str()))
 }
@@ -65,7 +96,7 @@ fn read_once<R: Runtime>(
 }
 
 // A link goes alone, and never what it points to.
-fn remove<R: Runtime>(world: &RealWorld<R>, at: &Rel) -> io::Result<()> {
+pub(crate) fn remove<R: Runtime>(world: &RealWorld<R>, at: &Rel) -> io::Result<()> {
     let place = place_of(world.alloc, world.root.as_str(), at)?;
     match fs::symlink_metadata(&world.rt, place.as_str()) {
         Ok(found) if found.is_dir() => fs::remove_dir_all(&world.rt, place.as_str()),

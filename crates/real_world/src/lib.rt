@@ -10,6 +10,7 @@ mod commands;
 mod failures;
 mod files;
 mod findings;
+mod lanes;
 mod places;
 mod programs;
 mod sink;

@@ -2,12 +2,12 @@
 use crate::commands::shell_of;
 use crate::places::place_of;
 use crate::{RealSink, RealWorld};
-use dvc_base::{Failed, Rel, Text, Texts};
+use dvc_base::{Failed, Rel, Text, Texts, is_at_or_below};
 use std::alloc::Global;
 use std::fmt::Debug;
 use std::test::Fail;
 use std::{fs, str};
-use world_api::{Exit, Files, Job, Kind, Shell, Sink};
+use world_api::{Exit, Files, Job, Kind, Shell, Sink, lane_path};
 
 const PIECE: usize = 65_536;
 
@@ -95,6 +95,38 @@ impl<'a> Trial<'a> {
         }
         same(self.world.clear(&at), want, text)?;
         self.counts(want.is_err(), text)
+    }
+
+    fn begin(&mut self, want: Result<(), Failed>) -> Result<(), Fail> {
+        same(self.world.begin(0), want, "begin")?;
+        self.counts(want.is_err(), "begin")
+    }
+
+    fn append(&mut self, bytes: &str, want: Result<(), Failed>) -> Result<(), Fail> {
+        same(self.world.append(0, bytes.as_bytes()), want, bytes)?;
+        self.counts(want.is_err(), bytes)
+    }
+
+    fn settle(&mut self, want: Result<(), Failed>) -> Result<(), Fail> {
+        same(self.world.settle(0), want, "settle")?;
+        self.counts(want.is_err(), "settle")
+    }
+
+    fn publish(&mut self, text: &str, want: Result<(), Failed>) -> Result<(), Fail> {
+        let at = self.path(text)?;
+        if is_at_or_below(&at, &lane_path(self.rt.alloc(), 0)?) {
+            return Err(Fail::new(format_args!("{text} is the lane")));
+        }
+        same(self.world.publish(0, &at), want, text)?;
+        self.counts(want.is_err(), text)
+    }
+
+    // Puts the bytes in place of what stands at the path.
+    fn write(&mut self, text: &str, bytes: &str) -> Result<(), Fail> {
+        self.begin(Ok(()))?;
+        self.append(bytes, Ok(()))?;
+        self.settle(Ok(()))?;
+        self.publish(text, Ok(()))
     }
 
     fn run(
@@ -303,6 +335,75 @@ fn clear_takes_away_just_what_stands_there(rt: HostRuntime) -> Result<(), Fail> 
     trial.clear("pipe", Ok(()))?;
     trial.script("test \"$(echo *)\" = file")?;
     trial.end()
+}
+
+#[test]
+fn a_file_is_written_in_place_of_a_file_or_a_link(rt: HostRuntime) -> Result<(), Fail> {
+    let mut trial = Trial::new(rt, "a_file_is_written_in_place_of_a_file_or_a_link", LAYOUT)?;
+    for (text, bytes) in [
+        ("new", "one"),
+        ("new", ""),
+        ("file", "two"),
+        ("folder/inner", "three"),
+        ("to_folder/inner", "four"),
+        (".dvc/config", "five"),
+        ("to_file", "six"),
+        ("broken", "seven"),
+    ] {
+        trial.write(text, bytes)?;
+        trial.read(text, 0, Some(bytes))?;
+        trial.kind(".dvc/tmp/new-0", Ok(Kind::Missing))?;
+    }
+    trial.script(
+        "test \"$(cat file)\" = two && ! test -h to_file && ! test -h broken
+        test -z \"$(ls .dvc/tmp)\" && test \"$(ls -A .dvc)\" = 'config
+tmp'",
+    )
+}
+
+#[test]
+fn a_lane_takes_the_place_of_what_a_stop_left(rt: HostRuntime) -> Result<(), Fail> {
+    let mut trial = Trial::new(rt, "a_lane_takes_the_place_of_what_a_stop_left", LAYOUT)?;
+    for left in [
+        "mkdir .dvc",
+        "printf old > .dvc/tmp/new-0; cp .dvc/tmp/new-0 before; ln .dvc/tmp/new-0 second",
+        "rm -rf .dvc/tmp; printf x > .dvc/tmp",
+        "rm -rf .dvc/tmp; ln -s nothing .dvc/tmp",
+        "rm -rf .dvc/tmp; mkdir -p .dvc/tmp/new-0/deep",
+        "rm -rf .dvc/tmp; mkdir -p .dvc/tmp; ln -s ../../file .dvc/tmp/new-0",
+        "rm -rf .dvc",
+    ] {
+        trial.script(left)?;
+        trial.begin(Ok(()))?;
+        trial.kind(".dvc/tmp/new-0", Ok(Kind::File { size: 0 }))?;
+        trial.append("ab", Ok(()))?;
+        trial.append("", Ok(()))?;
+        trial.append("c", Ok(()))?;
+        trial.read(".dvc/tmp/new-0", 0, Some("abc"))?;
+    }
+    trial.script("test \"$(cat file)\" = abc && test \"$(cat second)\" = old")
+}
+
+#[test]
+fn a_file_above_the_lanes_stays(rt: HostRuntime) -> Result<(), Fail> {
+    let mut trial = Trial::new(rt, "a_file_above_the_lanes_stays", "printf mine > .dvc")?;
+    trial.begin(Err(Failed))?;
+    trial.append("abc", Err(Failed))?;
+    trial.settle(Err(Failed))?;
+    trial.publish("new", Err(Failed))?;
+    trial.script("test \"$(cat .dvc)\" = mine && ! test -e new")
+}
+
+#[test]
+fn a_failed_publish_leaves_what_stood_there(rt: HostRuntime) -> Result<(), Fail> {
+    let mut trial = Trial::new(rt, "a_failed_publish_leaves_what_stood_there", LAYOUT)?;
+    for text in ["folder", "missing/new", "file/new", "."] {
+        trial.begin(Ok(()))?;
+        trial.append("lost", Ok(()))?;
+        trial.settle(Ok(()))?;
+        trial.publish(text, Err(Failed))?;
+    }
+    trial.script("test \"$(cat file folder/inner)\" = abcx && ! test -e missing")
 }
 
 #[test]

@@ -3,24 +3,22 @@
 --     folders_kept        what must stand for a job still stands once the outputs are gone
 --     root_dir            a stage at the root leaves its folder out of its outputs
 --     runs_anew           outputs that are files, and the effect's, are those of running the stage anew
-use Rattle.std.proofs.Common.{◌≡◌, ◌≢◌, ℕ, Bool, true, false, ◌&&◌, cond, List, [], ◌∷◌, map, refl, sym, ap, subst, ◌∙◌, Option, Some, None, option_and_then, IsTrue}
-use Rattle.std.specs.List.{AllByRecursion, list_any, list_all, flat_map}
+use Rattle.std.proofs.Common.{◌≡◌, ◌≢◌, ℕ, true, false, ◌&&◌, List, [], ◌∷◌, map, refl, sym, ap, subst, ◌∙◌, Option, Some, None, IsTrue}
+use Rattle.std.specs.List.{AllByRecursion, list_any, list_all}
 use Rattle.std.specs.FinMap.{insert}
 use Rattle.std.proofs.lemmas.Bool.{and_parts, or_parts, or_from, both_ways, false_from_ne_true}
-use Rattle.std.proofs.lemmas.List.{append-nil}
 use Rattle.dvc_base.specs.Path.{Path, under, overlap, is_within}
 use Rattle.dvc_base.proofs.PathLemmas.{under-refl, under-trans}
-use Rattle.world_api.specs.Tree.{Tree, Item, folder, file, Value, IsTree, item_at, value_of, value_at}
-use Rattle.world_api.specs.Effect.{Effect, gives, path_from, out_paths, given_values, invocation_of, is_in_any}
-use Rattle.world_api.specs.History.{Moment}
+use Rattle.world_api.specs.Tree.{Tree, Item, folder, file, Value, item_at, value_of, value_at}
+use Rattle.world_api.specs.Effect.{gives, path_from, out_paths, given_values, invocation_of, is_in_any}
 use Rattle.world_api.specs.Calls.{IsFileAt, is_apart, are_apart, is_path, is_runnable, parent, HasFolders}
 use Rattle.world_api.proofs.ValueLemmas.{value_of_file, value_same}
 use Rattle.repro_core.specs.Stage.{job_of, dep_paths, stage_outs, in_order, IsReady}
-use Rattle.repro_core.specs.Anew.{without, with_folders, put_value, put_values, is_nothing, is_blocked, after_outcome, anew_step, anew_steps}
+use Rattle.repro_core.specs.Anew.{put_value, put_values, is_nothing, is_blocked, after_outcome}
 use Rattle.repro_core.specs.Due.{refused_dep, dep_fault, refused_out, out_fault}
-use Rattle.repro_core.specs.Answer.{RunsAnew}
 use Rattle.repro_core.specs.declared.stage.Stage.{Stage}
-use Rattle.repro_core.proofs.RoadLemmas.{IsRoad, IsAbove, item_put_same, item_put_other, not_same, item_without, within_parent, folders_to, road_to, with_folders_same, is_blocked_road, apart_root, root_outside, apart_above, above_outputs, roads_put}
+use Rattle.repro_core.proofs.OrderLemmas.{all_in_order}
+use Rattle.repro_core.proofs.RoadLemmas.{IsRoad, IsAbove, within_parent, with_folders_same, is_blocked_road, apart_root, root_outside, above_outputs}
 use Rattle.dvc_base.specs.declared.fault.Fault.{Fault}
 
 -- ---- lists of paths
@@ -29,22 +27,22 @@ pub each_both : (P Q R : Path → Type 0) (ps : List Path) → ((p : Path) → P
 each_both P Q R [] f a b = tt
 each_both P Q R (p ∷ ps) f a b = (f p a.0 b.0, each_both P Q R ps f a.1 b.1)
 
-each_from : (P Q : Path → Type 0) (ps : List Path) → ((p : Path) → P p → Q p) → AllByRecursion P ps → AllByRecursion Q ps
+pub each_from : (P Q : Path → Type 0) (ps : List Path) → ((p : Path) → P p → Q p) → AllByRecursion P ps → AllByRecursion Q ps
 each_from P Q [] f a = tt
 each_from P Q (p ∷ ps) f a = (f p a.0, each_from P Q ps f a.1)
 
 -- ---- files, read off a refusal that isn't due
 
-file_of_dep : (o : Option Item) (p : Path) (later : Option Fault) → refused_dep o p later ≡ None → ((bytes : List ℕ) × (o ≡ Some (file bytes))) × (later ≡ None)
-file_of_dep None p later e = absurd (cc)
-file_of_dep (Some folder) p later e = absurd (cc)
-file_of_dep (Some (file bytes)) p later e = ((bytes, refl), e)
+file_of_dep : (name : List ℕ) (o : Option Item) (p : Path) (later : Option Fault) → refused_dep name o p later ≡ None → ((bytes : List ℕ) × (o ≡ Some (file bytes))) × (later ≡ None)
+file_of_dep name None p later e = absurd (cc)
+file_of_dep name (Some folder) p later e = absurd (cc)
+file_of_dep name (Some (file bytes)) p later e = ((bytes, refl), e)
 
-pub files_of_deps : (t : Tree) (ps : List Path) → dep_fault t ps ≡ None → AllByRecursion (IsFileAt t) ps
-files_of_deps t [] e = tt
-files_of_deps t (p ∷ ps) e =
-    let parts = file_of_dep (item_at t p) p (dep_fault t ps) e in
-    (parts.0, files_of_deps t ps parts.1)
+pub files_of_deps : (name : List ℕ) (t : Tree) (ps : List Path) → dep_fault name t ps ≡ None → AllByRecursion (IsFileAt t) ps
+files_of_deps name t [] e = tt
+files_of_deps name t (p ∷ ps) e =
+    let parts = file_of_dep name (item_at t p) p (dep_fault name t ps) e in
+    (parts.0, files_of_deps name t ps parts.1)
 
 file_of_out : (t : Tree) (p : Path) (o : Option Item) (name : List ℕ) (later : Option Fault) → refused_out name p (value_of t p o) later ≡ None → ((bytes : List ℕ) × (o ≡ Some (file bytes))) × (later ≡ None)
 file_of_out t p None name later e = absurd (cc)
@@ -57,12 +55,12 @@ files_of_outs t name (p ∷ ps) e =
     let parts = file_of_out t p (item_at t p) name (out_fault name ps (map (value_at t) ps)) e in
     (parts.0, files_of_outs t name ps parts.1)
 
-none_missing : (t : Tree) (ps : List Path) → AllByRecursion (IsFileAt t) ps → list_any is_nothing (map (value_at t) ps) ≡ false
+pub none_missing : (t : Tree) (ps : List Path) → AllByRecursion (IsFileAt t) ps → list_any is_nothing (map (value_at t) ps) ≡ false
 none_missing t [] h = refl
 none_missing t (p ∷ ps) h =
     or_from (is_nothing (value_at t p)) (list_any is_nothing (map (value_at t) ps)) (ap is_nothing (value_of_file t p h.0.0 h.0.1)) (none_missing t ps h.1)
 
-none_missing_at : (t : Tree) (ps : List Path) → AllByRecursion (IsFileAt t) ps → list_any (λ p. is_nothing (value_at t p)) ps ≡ false
+pub none_missing_at : (t : Tree) (ps : List Path) → AllByRecursion (IsFileAt t) ps → list_any (λ p. is_nothing (value_at t p)) ps ≡ false
 none_missing_at t [] h = refl
 none_missing_at t (p ∷ ps) h =
     or_from (is_nothing (value_at t p)) (list_any (λ q. is_nothing (value_at t q)) ps) (ap is_nothing (value_of_file t p h.0.0 h.0.1)) (none_missing_at t ps h.1)
@@ -76,14 +74,14 @@ outside_one dep (out ∷ outs) h =
     let over = or_parts (under dep out) (under out dep) parts.0 in
     or_from (under out dep) (is_in_any outs dep) over.1 (outside_one dep outs parts.1)
 
-deps_outside : (outs deps : List Path) → list_any (λ dep. list_any (overlap dep) outs) deps ≡ false → AllByRecursion (λ dep. is_in_any outs dep ≡ false) deps
+pub deps_outside : (outs deps : List Path) → list_any (λ dep. list_any (overlap dep) outs) deps ≡ false → AllByRecursion (λ dep. is_in_any outs dep ≡ false) deps
 deps_outside outs [] h = tt
 deps_outside outs (dep ∷ deps) h =
     let parts = or_parts (list_any (overlap dep) outs) (list_any (λ d. list_any (overlap d) outs) deps) h in
     (outside_one dep outs parts.0, deps_outside outs deps parts.1)
 
 -- a path above one that lies outside the outputs lies outside them
-above_dir : (outs : List Path) (q p : Path) → under q p ≡ true → is_in_any outs p ≡ false → is_in_any outs q ≡ false
+pub above_dir : (outs : List Path) (q p : Path) → under q p ≡ true → is_in_any outs p ≡ false → is_in_any outs q ≡ false
 above_dir [] q p u h = refl
 above_dir (out ∷ outs) q p u h =
     let parts = or_parts (under out p) (is_in_any outs p) h in
@@ -97,19 +95,19 @@ deps_same : (s : Stage) (t u : Tree) → IsReady s → AllByRecursion (IsFileAt 
 deps_same s t u ready files same =
     each_both (IsFileAt t) (λ dep. is_in_any (stage_outs s) dep ≡ false) (λ dep. item_at u dep ≡ item_at t dep) (dep_paths s) (λ p f out. same p out) files (deps_outside (stage_outs s) (dep_paths s) ready.apart)
 
-given_same : (t u : Tree) (dir : Path) (texts : List (List ℕ)) → AllByRecursion (λ dep. value_at u dep ≡ value_at t dep) (map (path_from dir) texts) → given_values u dir texts ≡ given_values t dir texts
+pub given_same : (t u : Tree) (dir : Path) (texts : List (List ℕ)) → AllByRecursion (λ dep. value_at u dep ≡ value_at t dep) (map (path_from dir) texts) → given_values u dir texts ≡ given_values t dir texts
 given_same t u dir [] h = refl
 given_same t u dir (d ∷ ds) h =
     ap (λ (v : Value). (d, v) ∷ given_values u dir ds) h.0 ∙ ap (λ (vs : List (List ℕ × Value)). (d, value_at t (path_from dir d)) ∷ vs) (given_same t u dir ds h.1)
 
-pub same_invocation : (s : Stage) (t u : Tree) → IsReady s → dep_fault t (dep_paths s) ≡ None → IsSameOutside (stage_outs s) t u → invocation_of (job_of s) u ≡ invocation_of (job_of s) t
+pub same_invocation : (s : Stage) (t u : Tree) → IsReady s → dep_fault s.name t (dep_paths s) ≡ None → IsSameOutside (stage_outs s) t u → invocation_of (job_of s) u ≡ invocation_of (job_of s) t
 same_invocation s t u ready none same =
-    let files = files_of_deps t (dep_paths s) none in
+    let files = files_of_deps s.name t (dep_paths s) none in
     let items = deps_same s t u ready files same in
     let values : AllByRecursion (λ dep. value_at u dep ≡ value_at t dep) (dep_paths s) =
     each_both (IsFileAt t) (λ dep. item_at u dep ≡ item_at t dep) (λ dep. value_at u dep ≡ value_at t dep) (dep_paths s) (λ p f e. value_same t u p f.0 f.1 e) files items in
     let given : given_values u s.dir (in_order s.deps) ≡ given_values t s.dir (in_order s.deps) =
-    subst (λ (texts : List (List ℕ)). given_values u s.dir texts ≡ given_values t s.dir texts) (sym ready.deps) (given_same t u s.dir s.deps values) in
+    given_same t u s.dir (in_order s.deps) (all_in_order (path_from s.dir) (λ dep. value_at u dep ≡ value_at t dep) s.deps values) in
     ap (λ (given : List (List ℕ × Value)). record { commands = s.commands; deps = given; outs = in_order s.outs }) given
 
 -- ---- what must stand for the job
@@ -130,7 +128,7 @@ root_dir s root runnable order =
 pub job_outs : (s : Stage) → IsReady s → out_paths (job_of s) ≡ stage_outs s
 job_outs s ready = ap (map (path_from s.dir)) ready.outs
 
-roots_apart : (ps : List Path) → are_apart ps ≡ true → AllByRecursion (λ p. p ≢ []) ps
+pub roots_apart : (ps : List Path) → are_apart ps ≡ true → AllByRecursion (λ p. p ≢ []) ps
 roots_apart [] h = tt
 roots_apart (p ∷ ps) h =
     let parts = and_parts (is_apart p ps) (are_apart ps) h in
@@ -158,85 +156,14 @@ folders_kept s t u ready folders same =
 
 -- ---- files that are put
 
-pub record ArePut (t new u : Tree) (ps : List Path) : Type 0 where
-  pub others : (q : Path) → is_in_any ps q ≡ false → item_at new q ≡ item_at t q
-  pub values : AllByRecursion (λ p. value_at u p ≡ value_at new p) ps
-
-put_file : (t u : Tree) (p : Path) (f : IsFileAt u p) → p ≢ [] → IsRoad t p → put_value t p (value_at u p) ≡ insert t p (file f.0)
+pub put_file : (t u : Tree) (p : Path) (f : IsFileAt u p) → p ≢ [] → IsRoad t p → put_value t p (value_at u p) ≡ insert t p (file f.0)
 put_file t u p f root road =
     ap (put_value t p) (value_of_file u p f.0 f.1) ∙ ap (λ (x : Tree). insert x p (file f.0)) (with_folders_same t [] (parent p) (λ q h. road q (within_parent q p root h)))
 
-put_files : (ps : List Path) (t u : Tree) → AllByRecursion (IsFileAt u) ps → AllByRecursion (IsRoad t) ps → are_apart ps ≡ true → ArePut t (put_values t ps (map (value_at u) ps)) u ps
-put_files [] t u files roads apart = record { others = λ q h. refl; values = tt }
-put_files (p ∷ ps) t u files roads apart =
-    let parts = and_parts (is_apart p ps) (are_apart ps) apart in
-    let root = apart_root p ps parts.0 in
-    let bytes = files.0.0 in
-    let next = insert t p (file bytes) in
-    let last = put_values next ps (map (value_at u) ps) in
-    let step : put_value t p (value_at u p) ≡ next = put_file t u p files.0 root roads.0 in
-    let rest : ArePut next last u ps =
-    put_files ps next u files.1 (roads_put t p (file bytes) ps parts.0 roads.1) parts.1 in
-    let here : item_at last p ≡ Some (file bytes) =
-    rest.others p (apart_above p p ps parts.0 (under-refl p)) ∙ item_put_same t p (file bytes) root in
-    let all : ArePut t last u (p ∷ ps) =
-    record {
-      others = λ q h. let out = or_parts (under p q) (is_in_any ps q) h in rest.others q out.1 ∙ item_put_other t p q (file bytes) (not_same p q out.0);
-      values = (value_of_file u p bytes files.0.1 ∙ sym (value_of_file last p bytes here), rest.values);
-    } in
-    subst (λ (x : Tree). ArePut t (put_values x ps (map (value_at u) ps)) u (p ∷ ps)) (sym step) all
-
-none_blocked : (t : Tree) (ps : List Path) → AllByRecursion (IsRoad t) ps → list_any (is_blocked t []) ps ≡ false
+pub none_blocked : (t : Tree) (ps : List Path) → AllByRecursion (IsRoad t) ps → list_any (is_blocked t []) ps ≡ false
 none_blocked t [] h = refl
 none_blocked t (p ∷ ps) h =
     or_from (is_blocked t [] p) (list_any (is_blocked t []) ps) (is_blocked_road t [] p h.0) (none_blocked t ps h.1)
 
-roads_kept : (outs : List Path) (t u : Tree) → are_apart outs ≡ true → IsSameOutside outs t u → AllByRecursion (IsRoad t) outs → AllByRecursion (IsRoad u) outs
-roads_kept outs t u apart same roads =
-    each_both (IsAbove outs) (IsRoad t) (IsRoad u) outs (λ p above road q w. same q (above q w) ∙ road q w) (above_outputs outs apart) roads
-
-outcome_put : (t : Tree) (outs : List Path) (values : List Value) → list_any is_nothing values ≡ false → list_any (is_blocked (put_values t outs values) []) outs ≡ false → after_outcome t outs (gives values) ≡ Some (put_values t outs values)
+pub outcome_put : (t : Tree) (outs : List Path) (values : List Value) → list_any is_nothing values ≡ false → list_any (is_blocked (put_values t outs values) []) outs ≡ false → after_outcome t outs (gives values) ≡ Some (put_values t outs values)
 outcome_put t outs values a b = rw (a, b)
-
--- ---- running the stage anew
-
--- the stage can be run where its outputs are taken away, and its run puts the values that were left
-anew_one : (effect : Effect) (s : Stage) (t u : Tree) → IsReady s → IsTree t → HasFolders (job_of s) t → dep_fault t (dep_paths s) ≡ None → effect (invocation_of (job_of s) t) ≡ gives (map (value_at u) (stage_outs s)) → AllByRecursion (IsFileAt u) (stage_outs s) → ((tree : Tree) × (anew_step effect s (without t (stage_outs s)) ≡ Some tree) × AllByRecursion (λ out. value_at u out ≡ value_at tree out) (stage_outs s))
-anew_one effect s t u ready tree folders none gave files =
-    let outs = stage_outs s in
-    let w = without t outs in
-    let values = map (value_at u) outs in
-    let apart = outs_apart s ready in
-    let same : IsSameOutside outs t w = λ p out. item_without outs t p out in
-    let stand : AllByRecursion (λ out. item_at t (parent out) ≡ Some folder) outs =
-    subst (AllByRecursion (λ out. item_at t (parent out) ≡ Some folder)) (job_outs s ready) folders.above in
-    let roads : AllByRecursion (IsRoad t) outs =
-    each_from (λ out. item_at t (parent out) ≡ Some folder) (IsRoad t) outs (λ out e. road_to t tree out e) stand in
-    let roads_without = roads_kept outs t w apart same roads in
-    let put = put_files outs w u files roads_without apart in
-    let last = put_values w outs values in
-    let roads_last = roads_kept outs w last apart put.others roads_without in
-    let deps_here : AllByRecursion (IsFileAt w) (dep_paths s) =
-    each_both (IsFileAt t) (λ dep. item_at w dep ≡ item_at t dep) (IsFileAt w) (dep_paths s) (λ p f e. (f.0, e ∙ f.1)) (files_of_deps t (dep_paths s) none) (deps_same s t w ready (files_of_deps t (dep_paths s) none) same) in
-    let dir_outside : (q : Path) → under q s.dir ≡ true → is_in_any outs q ≡ false = λ q h. above_dir outs q s.dir h ready.dir in
-    let folder_made : with_folders w [] s.dir ≡ w =
-    with_folders_same w [] s.dir (λ q h. same q (dir_outside q h) ∙ folders_to t tree s.dir q folders.dir h) in
-    let given : effect (invocation_of (job_of s) w) ≡ gives values =
-    ap effect (same_invocation s t w ready none same) ∙ gave in
-    let outcome : after_outcome w outs (gives values) ≡ Some last =
-    outcome_put w outs values (none_missing u outs files) (none_blocked last outs roads_last) in
-    let step : anew_step effect s w ≡ Some last =
-    ap (λ (b : Bool). cond b None (after_outcome (with_folders w [] s.dir) (out_paths (job_of s)) (effect (invocation_of (job_of s) w)))) (none_missing_at w (dep_paths s) deps_here) ∙ ap (λ (x : Tree). after_outcome x (out_paths (job_of s)) (effect (invocation_of (job_of s) w))) folder_made ∙ ap (λ (ps : List Path). after_outcome w ps (effect (invocation_of (job_of s) w))) (job_outs s ready) ∙ ap (after_outcome w outs) given ∙ outcome in
-    (last, step, put.values)
-
-pub runs_anew : (effect : Effect) (s : Stage) (old new : Moment) → IsReady s → IsTree old.tree → HasFolders (job_of s) old.tree → dep_fault old.tree (dep_paths s) ≡ None → effect (invocation_of (job_of s) old.tree) ≡ gives (map (value_at new.tree) (stage_outs s)) → AllByRecursion (IsFileAt new.tree) (stage_outs s) → IsSameOutside (stage_outs s) old.tree new.tree → RunsAnew effect (s ∷ []) old new
-runs_anew effect s old new ready tree folders none gave files same =
-    let one = anew_one effect s old.tree new.tree ready tree folders none gave files in
-    let all : flat_map stage_outs (s ∷ []) ≡ stage_outs s = append-nil (stage_outs s) in
-    record {
-      tree = one.0;
-      anew =
-          ap (λ (outs : List Path). option_and_then (anew_steps effect []) (anew_step effect s (without old.tree outs))) all ∙ ap (option_and_then (anew_steps effect [])) one.1;
-      outputs = subst (AllByRecursion (λ out. value_at new.tree out ≡ value_at one.0 out)) (sym all) one.2;
-      others = λ p out. same p (subst (λ (outs : List Path). is_in_any outs p ≡ false) all out);
-    }

@@ -88,7 +88,7 @@ within_parent q (c ∷ p) root h =
 abbrev pub IsRoad : Tree → Path → Type 0
 IsRoad t p = (q : Path) → is_within p q ≡ true → item_at t q ≡ Some folder
 
-item_at_push : (t : Tree) (q : Path) (c : List ℕ) → item_at t (q ++ c ∷ []) ≡ get t (q ++ c ∷ [])
+pub item_at_push : (t : Tree) (q : Path) (c : List ℕ) → item_at t (q ++ c ∷ []) ≡ get t (q ++ c ∷ [])
 item_at_push t [] c = refl
 item_at_push t (d ∷ q) c = refl
 
@@ -129,11 +129,11 @@ pub apart_root : (p : Path) (ps : List Path) → is_apart p ps ≡ true → p �
 apart_root p [] h e = both_ways (not (length p == 0)) (ap (λ (x : Path). not (length x == 0)) e) h
 apart_root p (q ∷ ps) h e = apart_root p ps (and_parts (not (overlap p q)) (is_apart p ps) h).1 e
 
-above_none : (p : Path) → p ≢ [] → under p [] ≡ false
+pub above_none : (p : Path) → p ≢ [] → under p [] ≡ false
 above_none [] h = absurd (h refl)
 above_none (c ∷ p) h = refl
 
-apart_head : (p q : Path) (ps : List Path) → is_apart p (q ∷ ps) ≡ true → (overlap p q ≡ false) × (is_apart p ps ≡ true)
+pub apart_head : (p q : Path) (ps : List Path) → is_apart p (q ∷ ps) ≡ true → (overlap p q ≡ false) × (is_apart p ps ≡ true)
 apart_head p q ps h =
     let parts = and_parts (not (overlap p q)) (is_apart p ps) h in
     (false_from_ne_true (overlap p q) (λ e. both_ways (not (overlap p q)) (ap not e) parts.0), parts.1)

@@ -1,28 +1,29 @@
--- The steps of a turn, over plain moments: its clears, its run, and what it answers.
+-- The steps of a run, over plain moments: its clears, its job, and what it answers.
 --     clear_gone, clear_keeps       one more clear
---     repro_itself, repro_of_keeps, repro_of_run     each moment of a turn is one of a `repro` of its stage
---     answer_of_run, answer_of_look, headline_of_look     what the answers of a run and of a look have to do with what is due
-use Rattle.std.proofs.Common.{◌≡◌, ◌≢◌, ℕ, ℤ, pos, ◌+◌, ◌<◌, true, false, List, [], ◌∷◌, ◌++◌, length, take, get_or, map, refl, sym, ap, subst, ◌∙◌, arith, Option, Some, None, IfSome, Result, Ok, Err, OnOk, inl, inr, zero, suc}
+--     anew_itself, anew_of_keeps, anew_of_run     each moment is one of a run of the stage
+--     answer_of_run, answer_of_look, made_of_look     what the answers of a run and of a look have to do with what is due
+use Rattle.std.proofs.Common.{◌≡◌, ◌≢◌, ℕ, ℤ, pos, ◌+◌, ◌<◌, true, List, [], ◌∷◌, ◌++◌, length, take, get_or, map, refl, sym, ap, subst, ◌∙◌, arith, Option, Some, None, IfSome, Result, Ok, Err, OnOk, inl, inr, zero, suc}
 use Rattle.std.specs.Bool.{⊤}
-use Rattle.std.specs.List.{flat_map}
+use Rattle.std.specs.List.{AllByRecursion}
 use Rattle.std.proofs.lemmas.Bool.{cases_Bool, and_parts}
 use Rattle.std.proofs.lemmas.List.{append-nil, take_more}
 use Rattle.dvc_base.specs.Path.{Path, under}
 use Rattle.dvc_base.specs.declared.fault.Fault.{Fault}
-use Rattle.dvc_base.specs.declared.fault.Fault.TheVariants.{NoMemory, BadWords, Changed, NotBuilt, CommandFailed, MissingOutput, WorldFault, OutFault}
-use Rattle.world_api.specs.Tree.{IsTree, Value, value_at}
+use Rattle.dvc_base.specs.declared.fault.Fault.TheVariants.{NoMemory, BadWords, Changed, NotBuilt, MissingDependency, CommandFailed, MissingOutput, NotFolder, WorldFault, OutFault}
+use Rattle.world_api.specs.Tree.{Value, value_at}
 use Rattle.world_api.specs.Effect.{Effect, Outcome, fails, gives, invocation_of, is_in_any, out_paths}
-use Rattle.world_api.specs.History.{Fixed, Moment, ran_too, KeepsPaths, Keeps}
-use Rattle.world_api.specs.Calls.{IsCleared, InClear, IsRun, InRun, Meets, HasFolders, is_apart, are_apart}
-use Rattle.world_api.proofs.HistoryLemmas.{keeps_in, keeps_paths_itself, keeps_paths_then, keeps_paths_in}
+use Rattle.world_api.specs.History.{Fixed, Book, Moment, Grows, ran_too, KeepsPaths, Keeps}
+use Rattle.world_api.specs.Calls.{IsFileAt, IsCleared, InClear, IsRun, InRun, Meets, is_apart, are_apart}
+use Rattle.world_api.proofs.HistoryLemmas.{keeps_in, keeps_paths_itself, keeps_paths_then}
 use Rattle.world_api.proofs.ValueLemmas.{is_in_any-at, is_in_any-push}
 use Rattle.repro_core.specs.Stage.{job_of, dep_paths, stage_outs, IsReady}
 use Rattle.repro_core.specs.Due.{dep_fault, out_fault, outcome_fault}
-use Rattle.repro_core.specs.Answer.{fault_in, IsAnswer, GainsFront, RunsAnew, InRepro}
-use Rattle.repro_core.specs.Steps.{IsClear, IsEnd, WasRun}
+use Rattle.repro_core.specs.Answer.{fault_in, IsAnswer}
+use Rattle.repro_core.specs.Moments.{HaveRun}
+use Rattle.repro_core.specs.Steps.{IsClear, IsEnd, WasRun, InAnew}
 use Rattle.repro_core.specs.declared.stage.Stage.{Stage}
 use Rattle.repro_core.proofs.RoadLemmas.{apart_root}
-use Rattle.repro_core.proofs.AnewLemmas.{IsSameOutside, job_outs, same_invocation, files_of_outs, runs_anew}
+use Rattle.repro_core.proofs.AnewLemmas.{job_outs, same_invocation, files_of_outs}
 
 -- ---- clears
 
@@ -56,61 +57,54 @@ apart_at (o ∷ outs) (suc i) out l e h =
 
 -- ---- moments
 
-outs_of_one : (s : Stage) → flat_map stage_outs (s ∷ []) ≡ stage_outs s
-outs_of_one s = append-nil (stage_outs s)
+pub grows_itself : (a : Book) → Grows a a
+grows_itself a digest bytes e = e
 
-outside_one_stage : (s : Stage) (p : Path) → is_in_any (flat_map stage_outs (s ∷ [])) p ≡ false → is_in_any (stage_outs s) p ≡ false
-outside_one_stage s p h = subst (λ (outs : List Path). is_in_any outs p ≡ false) (outs_of_one s) h
+pub grows_then : (a b c : Book) → Grows a b → Grows b c → Grows a c
+grows_then a b c x y digest bytes e = y digest bytes (x digest bytes e)
 
-keeps_in_repro : (s : Stage) (m n : Moment) → KeepsPaths (is_in_any (stage_outs s)) m n → KeepsPaths (is_in_any (flat_map stage_outs (s ∷ []))) m n
-keeps_in_repro s m n h =
-    keeps_paths_in (is_in_any (stage_outs s)) (is_in_any (flat_map stage_outs (s ∷ []))) m n (outside_one_stage s) h
-
-none_ran : (s : Stage) (m n : Moment) → n.aside.fixed ≡ m.aside.fixed → GainsFront m.aside.fixed.ran (job_of s ∷ []) n.aside.fixed.ran
+pub none_ran : (s : Stage) (m n : Moment) → n.aside.fixed ≡ m.aside.fixed → HaveRun (s ∷ []) m n
 none_ran s m n e =
-    record {
-      front = [];
-      back = job_of s ∷ [];
-      cut = refl;
-      grown = ap (λ (f : Fixed). f.ran) e ∙ sym (append-nil m.aside.fixed.ran);
-    }
+    record { jobs = []; ran = ap (λ (f : Fixed). f.ran) e ∙ sym (append-nil m.aside.fixed.ran); some = tt }
 
-one_ran : (s : Stage) (m n : Moment) → n.aside.fixed ≡ ran_too (job_of s) m.aside.fixed → GainsFront m.aside.fixed.ran (job_of s ∷ []) n.aside.fixed.ran
+pub one_ran : (s : Stage) (m n : Moment) → n.aside.fixed ≡ ran_too (job_of s) m.aside.fixed → HaveRun (s ∷ []) m n
 one_ran s m n e =
-    record {
-      front = job_of s ∷ [];
-      back = [];
-      cut = sym (append-nil (job_of s ∷ []));
-      grown = ap (λ (f : Fixed). f.ran) e;
-    }
+    record { jobs = job_of s ∷ []; ran = ap (λ (f : Fixed). f.ran) e; some = inl (refl, tt) }
 
-pub repro_of_keeps : (s : Stage) (m n : Moment) → Keeps (is_in_any (stage_outs s)) m n → InRepro (s ∷ []) m n
-repro_of_keeps s m n h =
+pub anew_of_keeps : (s : Stage) (m n : Moment) → Keeps (is_in_any (stage_outs s)) m n → InAnew s m n
+anew_of_keeps s m n h =
     record {
-      others = keeps_in_repro s m n h.paths;
+      others = h.paths;
       effect = ap (λ (f : Fixed). f.effect) h.aside.fixed;
+      book = h.aside.book;
       ran = none_ran s m n h.aside.fixed;
     }
 
-pub repro_itself : (s : Stage) (m : Moment) → InRepro (s ∷ []) m m
-repro_itself s m =
+pub anew_itself : (s : Stage) (m : Moment) → InAnew s m m
+anew_itself s m =
     record {
-      others = keeps_paths_itself (is_in_any (flat_map stage_outs (s ∷ []))) m;
+      others = keeps_paths_itself (is_in_any (stage_outs s)) m;
       effect = refl;
+      book = grows_itself m.aside.book;
       ran = none_ran s m m refl;
     }
 
-pub repro_of_run : (s : Stage) (m cleared n : Moment) → IsReady s → Keeps (is_in_any (stage_outs s)) m cleared → InRun (job_of s) cleared n → InRepro (s ∷ []) m n
-repro_of_run s m cleared n ready keeps run =
+pub anew_of_run : (s : Stage) (m cleared n : Moment) → IsReady s → Keeps (is_in_any (stage_outs s)) m cleared → InRun (job_of s) cleared n → InAnew s m n
+anew_of_run s m cleared n ready keeps run =
     let area = is_in_any (stage_outs s) in
     let others : KeepsPaths area cleared n =
     subst (λ (outs : List Path). KeepsPaths (is_in_any outs) cleared n) (job_outs s ready) run.others in
     record {
-      others = keeps_in_repro s m n (keeps_paths_then area m cleared n keeps.paths others);
+      others = keeps_paths_then area m cleared n keeps.paths others;
       effect =
           elim run.aside [
             | inl a ↦ ap (λ (f : Fixed). f.effect) (a.fixed ∙ keeps.aside.fixed)
             | inr a ↦ ap (λ (f : Fixed). f.effect) (a.fixed ∙ ap (ran_too (job_of s)) keeps.aside.fixed)
+          ];
+      book =
+          elim run.aside [
+            | inl a ↦ grows_then m.aside.book cleared.aside.book n.aside.book keeps.aside.book a.book
+            | inr a ↦ grows_then m.aside.book cleared.aside.book n.aside.book keeps.aside.book a.book
           ];
       ran =
           elim run.aside [
@@ -119,21 +113,17 @@ repro_of_run s m cleared n ready keeps run =
           ];
     }
 
-pub same_of_repro : (s : Stage) (m n : Moment) → InRepro (s ∷ []) m n → IsSameOutside (stage_outs s) m.tree n.tree
-same_of_repro s m n h p out =
-    h.others.items p (subst (λ (outs : List Path). is_in_any outs p ≡ false) (sym (outs_of_one s)) out)
-
 -- ---- answers
 
 pub if_some : {A : Type 0} (o : Option A) (P : A → Type 0) → ((x : A) → o ≡ Some x → P x) → IfSome o P
 if_some None P f = tt
 if_some (Some x) P f = f x refl
 
-if_some_at : {A : Type 0} (o : Option A) (P : A → Type 0) (x : A) → o ≡ Some x → IfSome o P → P x
+pub if_some_at : {A : Type 0} (o : Option A) (P : A → Type 0) (x : A) → o ≡ Some x → IfSome o P → P x
 if_some_at {A = A} o P x e h = subst (λ (q : Option A). IfSome q P) e h
 
 -- what the run's code and the values that it left have to do with the effect, from the turn's start
-meets : (effect : Effect) (s : Stage) (m cleared n : Moment) (code : ℤ) → IsReady s → dep_fault m.tree (dep_paths s) ≡ None → Keeps (is_in_any (stage_outs s)) m cleared → m.aside.fixed.effect ≡ Some effect → IsRun (job_of s) code cleared n → Meets (effect (invocation_of (job_of s) m.tree)) code (map (value_at n.tree) (stage_outs s))
+meets : (effect : Effect) (s : Stage) (m cleared n : Moment) (code : ℤ) → IsReady s → dep_fault s.name m.tree (dep_paths s) ≡ None → Keeps (is_in_any (stage_outs s)) m cleared → m.aside.fixed.effect ≡ Some effect → IsRun (job_of s) code cleared n → Meets (effect (invocation_of (job_of s) m.tree)) code (map (value_at n.tree) (stage_outs s))
 meets effect s m cleared n code ready none keeps told run =
     let known : cleared.aside.fixed.effect ≡ Some effect = ap (λ (f : Fixed). f.effect) keeps.aside.fixed ∙ told in
     let values = map (value_at n.tree) (out_paths (job_of s)) in
@@ -152,7 +142,7 @@ gives_of_code : (o : Outcome) (values : List Value) → Meets o (pos 0) values �
 gives_of_code (fails found) values m = absurd (m.0 (sym m.1))
 gives_of_code (gives wanted) values m = ap gives (sym m.1)
 
-pub answer_of_run : (s : Stage) (m cleared n : Moment) (f : Fault) → IsReady s → dep_fault m.tree (dep_paths s) ≡ None → Keeps (is_in_any (stage_outs s)) m cleared → WasRun (job_of s) s.name (Some f) cleared n → IsEnd (Some f) → IfSome m.aside.fixed.effect (λ effect. IsAnswer (Some f) (outcome_fault s (effect (invocation_of (job_of s) m.tree))))
+pub answer_of_run : (s : Stage) (m cleared n : Moment) (f : Fault) → IsReady s → dep_fault s.name m.tree (dep_paths s) ≡ None → Keeps (is_in_any (stage_outs s)) m cleared → WasRun (job_of s) s.name (Some f) cleared n → IsEnd (Some f) → IfSome m.aside.fixed.effect (λ effect. IsAnswer (Some f) (outcome_fault s (effect (invocation_of (job_of s) m.tree))))
 answer_of_run s m cleared n NoMemory ready none keeps run end =
     if_some m.aside.fixed.effect (λ effect. ⊤) (λ effect e. tt)
 answer_of_run s m cleared n WorldFault ready none keeps run end =
@@ -163,22 +153,28 @@ answer_of_run s m cleared n BadWords ready none keeps run end = absurd end
 answer_of_run s m cleared n (Changed path told found) ready none keeps run end = absurd end
 answer_of_run s m cleared n (NotBuilt file) ready none keeps run end = absurd end
 answer_of_run s m cleared n (MissingOutput stage path) ready none keeps run end = absurd end
+answer_of_run s m cleared n (MissingDependency stage path) ready none keeps run end = absurd end
+answer_of_run s m cleared n (NotFolder path) ready none keeps run end = absurd end
 answer_of_run s m cleared n OutFault ready none keeps run end = absurd end
 
-gave : (effect : Effect) (s : Stage) (m cleared n : Moment) → IsReady s → dep_fault m.tree (dep_paths s) ≡ None → Keeps (is_in_any (stage_outs s)) m cleared → m.aside.fixed.effect ≡ Some effect → WasRun (job_of s) s.name None cleared n → effect (invocation_of (job_of s) m.tree) ≡ gives (map (value_at n.tree) (stage_outs s))
+gave : (effect : Effect) (s : Stage) (m cleared n : Moment) → IsReady s → dep_fault s.name m.tree (dep_paths s) ≡ None → Keeps (is_in_any (stage_outs s)) m cleared → m.aside.fixed.effect ≡ Some effect → WasRun (job_of s) s.name None cleared n → effect (invocation_of (job_of s) m.tree) ≡ gives (map (value_at n.tree) (stage_outs s))
 gave effect s m cleared n ready none keeps told run =
     let values = map (value_at n.tree) (stage_outs s) in
     let given = invocation_of (job_of s) m.tree in
     gives_of_code (effect given) values (subst (λ (code : ℤ). Meets (effect given) code values) run.2 (meets effect s m cleared n run.0 ready none keeps told run.1))
 
-pub answer_of_look : (s : Stage) (m cleared n : Moment) (got : Option Fault) → IsReady s → dep_fault m.tree (dep_paths s) ≡ None → Keeps (is_in_any (stage_outs s)) m cleared → WasRun (job_of s) s.name None cleared n → IsAnswer got (out_fault s.name (stage_outs s) (map (value_at n.tree) (stage_outs s))) → IfSome m.aside.fixed.effect (λ effect. IsAnswer got (outcome_fault s (effect (invocation_of (job_of s) m.tree))))
+pub answer_of_look : (s : Stage) (m cleared n : Moment) (got : Option Fault) → IsReady s → dep_fault s.name m.tree (dep_paths s) ≡ None → Keeps (is_in_any (stage_outs s)) m cleared → WasRun (job_of s) s.name None cleared n → IsAnswer got (out_fault s.name (stage_outs s) (map (value_at n.tree) (stage_outs s))) → IfSome m.aside.fixed.effect (λ effect. IsAnswer got (outcome_fault s (effect (invocation_of (job_of s) m.tree))))
 answer_of_look s m cleared n got ready none keeps run look =
     let values = map (value_at n.tree) (stage_outs s) in
     let due : out_fault s.name (stage_outs s) values ≡ outcome_fault s (gives values) =
     ap (λ (outs : List Path). out_fault s.name outs values) (sym (job_outs s ready)) in
     if_some m.aside.fixed.effect (λ effect. IsAnswer got (outcome_fault s (effect (invocation_of (job_of s) m.tree)))) (λ effect e. subst (λ (o : Outcome). IsAnswer got (outcome_fault s o)) (sym (gave effect s m cleared n ready none keeps e run)) (subst (IsAnswer got) due look))
 
-pub headline_of_look : (s : Stage) (m cleared n : Moment) (got : Result (Unit {0}) Fault) → IsReady s → IsTree m.tree → HasFolders (job_of s) m.tree → dep_fault m.tree (dep_paths s) ≡ None → Keeps (is_in_any (stage_outs s)) m cleared → WasRun (job_of s) s.name None cleared n → InRepro (s ∷ []) m n → IsAnswer (fault_in got) (out_fault s.name (stage_outs s) (map (value_at n.tree) (stage_outs s))) → OnOk got (IfSome m.aside.fixed.effect (λ effect. RunsAnew effect (s ∷ []) m n))
-headline_of_look s m cleared n (Err fault) ready tree folders none keeps run repro look = tt
-headline_of_look s m cleared n (Ok done) ready tree folders none keeps run repro look =
-    if_some m.aside.fixed.effect (λ effect. RunsAnew effect (s ∷ []) m n) (λ effect e. runs_anew effect s m n ready tree folders none (gave effect s m cleared n ready none keeps e run) (files_of_outs n.tree s.name (stage_outs s) look) (same_of_repro s m n repro))
+pub made_of_look : (s : Stage) (m cleared n : Moment) (got : Result (Unit {0}) Fault) → IsReady s → dep_fault s.name m.tree (dep_paths s) ≡ None → Keeps (is_in_any (stage_outs s)) m cleared → WasRun (job_of s) s.name None cleared n → IsAnswer (fault_in got) (out_fault s.name (stage_outs s) (map (value_at n.tree) (stage_outs s))) → OnOk got (IfSome m.aside.fixed.effect (λ effect. effect (invocation_of (job_of s) m.tree) ≡ gives (map (value_at n.tree) (stage_outs s))))
+made_of_look s m cleared n (Err fault) ready none keeps run look = tt
+made_of_look s m cleared n (Ok done) ready none keeps run look =
+    if_some m.aside.fixed.effect (λ effect. effect (invocation_of (job_of s) m.tree) ≡ gives (map (value_at n.tree) (stage_outs s))) (λ effect e. gave effect s m cleared n ready none keeps e run)
+
+pub files_of_look : (s : Stage) (n : Moment) (got : Result (Unit {0}) Fault) → IsAnswer (fault_in got) (out_fault s.name (stage_outs s) (map (value_at n.tree) (stage_outs s))) → OnOk got (AllByRecursion (IsFileAt n.tree) (stage_outs s))
+files_of_look s n (Err fault) look = tt
+files_of_look s n (Ok done) look = files_of_outs n.tree s.name (stage_outs s) look

@@ -34,11 +34,10 @@ stage_outs s = map (path_from s.dir) s.outs
 abbrev pub is_above : Stage → Stage → Bool
 is_above a b = list_any (λ dep. list_any (overlap dep) (stage_outs a)) (dep_paths b)
 
--- a stage that can have its turn: its texts are paths in order, its outputs are apart and leave its folder out, and
--- it isn't above itself
+-- a stage that can have its turn: its texts are paths, those of its outputs in order; its outputs are apart and leave
+-- its folder out, and it isn't above itself
 pub record IsReady (s : Stage) : Type 0 where
   pub runnable : IsTrue (is_runnable (job_of s))
-  pub deps : in_order s.deps ≡ s.deps
   pub outs : in_order s.outs ≡ s.outs
   pub apart : is_above s s ≡ false
   pub dir : is_in_any (stage_outs s) s.dir ≡ false

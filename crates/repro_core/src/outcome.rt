@@ -1,13 +1,15 @@
 // The run of a stage's job, between the clear of its outputs and the look at them.
-ghost use Rattle.std.specs.Prelude.{◌≡◌, ◌++◌, [], ◌∷◌, IsTrue, IfSome, OnOk, IsErrOf, None};
+ghost use Rattle.std.specs.Prelude.{◌≡◌, ◌++◌, [], ◌∷◌, map, IsTrue, IfSome, OnOk, IsErrOf, None};
 ghost use Rattle.dvc_base.specs.declared.fault.Fault.TheVariants.{WorldFault};
-ghost use Rattle.world_api.specs.Effect.{invocation_of, is_in_any};
+ghost use Rattle.std.specs.List.{AllByRecursion};
+ghost use Rattle.world_api.specs.Tree.{value_at};
+ghost use Rattle.world_api.specs.Effect.{gives, invocation_of, is_in_any};
 ghost use Rattle.world_api.specs.History.{Passes, HasCause, Keeps};
-ghost use Rattle.world_api.specs.Calls.{HasFolders, are_apart, is_runnable, InRun};
-ghost use Rattle.repro_core.specs.Stage.{job_of, dep_paths, IsReady};
+ghost use Rattle.world_api.specs.Calls.{IsFileAt, HasFolders, are_apart, is_runnable, InRun};
+ghost use Rattle.repro_core.specs.Stage.{job_of, dep_paths, stage_outs, IsReady};
 ghost use Rattle.repro_core.specs.Due.{dep_fault, outcome_fault};
-ghost use Rattle.repro_core.specs.Answer.{fault_in, IsAnswer, Gains, IsCounted, RunsAnew, InRepro};
-ghost use Rattle.repro_core.specs.Steps.{IsPlan, IsClear, IsEnd, IsEndOf, WasRun, IsEffort};
+ghost use Rattle.repro_core.specs.Answer.{fault_in, IsAnswer, Gains, IsCounted};
+ghost use Rattle.repro_core.specs.Steps.{IsPlan, IsClear, IsEnd, IsEndOf, WasRun, IsEffort, InAnew};
 
 use crate::Stage;
 use crate::looks::look_at_outputs;
@@ -26,16 +28,19 @@ pub(crate) fn run_anew<W: World>(
     requires ready { IsReady stage.now }
     requires plan { IsPlan stage.now plan.now }
     requires folders { IsTrue W.tells → HasFolders (job_of stage.now) (W.history world.old).present.tree }
-    requires deps { IsTrue W.tells → dep_fault (W.history world.old).present.tree (dep_paths stage.now) ≡ None }
+    requires deps { IsTrue W.tells → dep_fault stage.now.name (W.history world.old).present.tree (dep_paths stage.now) ≡ None }
     ensures answer { IsTrue W.tells → IfSome (W.history world.old).present.aside.fixed.effect (λ effect.
         IsAnswer (fault_in result)
         (outcome_fault stage.now (effect (invocation_of (job_of stage.now) (W.history world.old).present.tree)))) }
-    ensures headline { IsTrue W.tells → OnOk result (IfSome (W.history world.old).present.aside.fixed.effect (λ effect.
-        RunsAnew effect (stage.now ∷ []) (W.history world.old).present (W.history world.new).present)) }
+    ensures made { IsTrue W.tells → OnOk result (IfSome (W.history world.old).present.aside.fixed.effect (λ effect.
+        effect (invocation_of (job_of stage.now) (W.history world.old).present.tree)
+        ≡ gives (map (value_at (W.history world.new).present.tree) (stage_outs stage.now)))) }
+    ensures files { IsTrue W.tells → OnOk result
+        (AllByRecursion (IsFileAt (W.history world.new).present.tree) (stage_outs stage.now)) }
     ensures ran { IsTrue W.tells → Gains (fault_in result) (W.history world.old).present.aside.fixed.ran
         (job_of stage.now ∷ []) (W.history world.new).present.aside.fixed.ran }
     ensures moments { IsTrue W.tells →
-        Passes (InRepro (stage.now ∷ []) (W.history world.old).present) (W.history world.old) (W.history world.new) }
+        Passes (InAnew stage.now (W.history world.old).present) (W.history world.old) (W.history world.new) }
     ensures cause { IsCounted (W.faults world.old) (W.faults world.new) (IsErrOf result WorldFault) }
     ensures effort { IsEffort (fault_in result) }
 {

@@ -7,6 +7,8 @@ ghost use Rattle.repro_core.specs.Stage.{job_of, IsReady};
 ghost use Rattle.repro_core.specs.Steps.{IsPlan};
 
 use crate::Stage;
+use crate::order::in_order;
+use crate::path::lock_path;
 use dvc_base::{NoMemory, PathFault, Plain, Plural, Rel, Text, Texts};
 use std::alloc::Global;
 use world_api::Job;
@@ -15,21 +17,33 @@ use world_api::Job;
 #[derive(Drop)]
 pub(crate) struct Plan {
     pub(crate) job: Job,
+    /// The dependencies as they are written.
+    pub(crate) looks: Plural<Rel>,
+    /// The dependencies in the job's order.
     pub(crate) deps: Plural<Rel>,
     pub(crate) outs: Plural<Rel>,
+    pub(crate) lock: Rel,
 }
 
 pub(crate) fn plan_of(alloc: Global, stage: &Stage) -> Result<Plan, NoMemory>
     requires { IsReady stage.now }
     ensures made { IfOk result (IsPlan stage.now) }
 {
-    let deps = paths_from(alloc, &stage.dir, &stage.deps)?;
-    let outs = paths_from(alloc, &stage.dir, &stage.outs)?;
     let job = job_of(alloc, stage)?;
-    Ok(Plan { job, deps, outs })
+    let looks = paths_from(alloc, &stage.dir, &stage.deps)?;
+    let deps = paths_from(alloc, &stage.dir, &job.deps)?;
+    let outs = paths_from(alloc, &stage.dir, &stage.outs)?;
+    let lock = lock_path(alloc)?;
+    Ok(Plan {
+        job,
+        looks,
+        deps,
+        outs,
+        lock,
+    })
 }
 
-// The stage's texts are in order already.
+// The outputs are in order already.
 fn job_of(alloc: Global, stage: &Stage) -> Result<Job, NoMemory>
     requires { IsReady stage.now }
     ensures made { IfOk result (λ job. job ≡ job_of stage.now) }
@@ -38,7 +52,7 @@ fn job_of(alloc: Global, stage: &Stage) -> Result<Job, NoMemory>
         stage: stage.name.copy(alloc)?,
         commands: stage.commands.copy(alloc)?,
         dir: stage.dir.copy(alloc)?,
-        deps: stage.deps.copy(alloc)?,
+        deps: in_order(alloc, &stage.deps)?,
         outs: stage.outs.copy(alloc)?,
     })
 }

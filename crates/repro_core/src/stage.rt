@@ -18,6 +18,8 @@ pub type Stages = Plural<Stage>;
 /// What a turn does for its stage.
 #[derive(Clone, Copy, Debug, PartialEq, Eq)]
 pub enum Choice {
+    /// Nothing: what is remembered of the stage is what stands there.
+    Skip,
     /// The outputs are cleared and the commands run.
     Run,
 }

@@ -7,11 +7,12 @@ use Rattle.world_api.specs.Tree.{Tree}
 use Rattle.world_api.specs.History.{Moment, History, Passes}
 use Rattle.world_api.specs.Calls.{IsCleared, InClear}
 use Rattle.world_api.specs.declared.job.Job.{Job}
+use Rattle.world_api.proofs.HistoryLemmas.{keeps_itself, stays_itself}
 use Rattle.world_api.proofs.TreeLemmas.{item_kept, item_gone}
 use Rattle.sim_world.specs.Applied.{tree_changed, jobs_changed, tree_after, jobs_after}
 use Rattle.sim_world.specs.Change.{changed, cleared, grown, replay}
 use Rattle.sim_world.specs.declared.change.Change.{Change}
-use Rattle.sim_world.specs.declared.change.Change.TheVariants.{Edited, Cleared, Loosened, Left, Ran}
+use Rattle.sim_world.specs.declared.change.Change.TheVariants.{Edited, Cleared, Loosened, Left, Ran, FolderMade, Written, Settled, Published}
 
 pub replay-append : (h : History) (cs ds : List Change) → replay h (cs ++ ds) ≡ replay (replay h cs) ds
 replay-append h [] ds = refl
@@ -34,6 +35,10 @@ changed_tree (Cleared at) m = refl
 changed_tree (Loosened at) m = refl
 changed_tree (Left at value) m = refl
 changed_tree (Ran job) m = refl
+changed_tree (FolderMade at) m = refl
+changed_tree (Written at value) m = refl
+changed_tree (Settled at) m = refl
+changed_tree (Published origin at value) m = refl
 
 changed_jobs : (c : Change) (m : Moment) → (changed c m).aside.fixed.ran ≡ jobs_changed c m.aside.fixed.ran
 changed_jobs (Edited at value) m = refl
@@ -41,6 +46,10 @@ changed_jobs (Cleared at) m = refl
 changed_jobs (Loosened at) m = refl
 changed_jobs (Left at value) m = refl
 changed_jobs (Ran job) m = refl
+changed_jobs (FolderMade at) m = refl
+changed_jobs (Written at value) m = refl
+changed_jobs (Settled at) m = refl
+changed_jobs (Published origin at value) m = refl
 
 pub replay_tree : (h : History) (cs : List Change) → (replay h cs).present.tree ≡ tree_after h.present.tree cs
 replay_tree h [] = refl
@@ -77,7 +86,7 @@ passes_along P h (c ∷ cs) along =
 
 -- ---- a clear
 
-below_not_root : (at p : Path) → at ≢ [] → under at p ≡ true → p ≢ []
+pub below_not_root : (at p : Path) → at ≢ [] → under at p ≡ true → p ≢ []
 below_not_root [] p ne u s = ne refl
 below_not_root (c ∷ at) p ne u s = true≢false (sym u ∙ ap (under (c ∷ at)) s)
 
@@ -91,7 +100,7 @@ clear_still : (at : Path) (m : Moment) → InClear at m m
 clear_still at m = record {
   old_or_missing = λ p u. inl refl;
   firm = λ p u e. e;
-  others = record { paths = record { items = λ p e. refl; loose = λ p e. refl }; aside = record { fixed = refl } };
+  others = keeps_itself (under at) m;
 }
 
 clear_done : (at : Path) (m : Moment) → at ≢ [] → InClear at m (cleared at m)
@@ -103,7 +112,7 @@ clear_done at m ne = record {
       items = λ p e. item_kept m.tree (λ q. not (under at q)) p (not_from_false (under at p) e);
       loose = λ p e. ap (λ (b : Bool). not b && m.loose p) e;
     };
-    aside = record { fixed = refl };
+    aside = stays_itself m.aside;
   };
 }
 

@@ -12,9 +12,11 @@ use Rattle.world_api.specs.Effect.{Effect, fails, gives, path_from, out_paths, i
 use Rattle.world_api.specs.History.{Moment, History, Passes, KeepsPaths, Stays, itself, ran_too}
 use Rattle.world_api.specs.Calls.{parent, is_apart, are_apart, is_runnable, HasFolders, Meets, IsRun, InRun}
 use Rattle.world_api.specs.declared.job.Job.{Job}
+use Rattle.world_api.proofs.HistoryLemmas.{stays_itself, stays_then}
 use Rattle.world_api.proofs.TreeLemmas.{item_kept, item_gone, item_put_same, item_put_other, under_parent, cons_not_root}
 use Rattle.sim_world.specs.Answer.{told, plain_value, plain_values, found, found_all, answered, outcome_of, effect_of, unmade}
 use Rattle.sim_world.specs.Applied.{tree_changed, tree_after}
+use Rattle.sim_world.specs.Book.{with_met}
 use Rattle.sim_world.specs.Change.{changed, grown, replay, history_of, opened, with_job, IsFront}
 use Rattle.sim_world.specs.Edits.{without, left_tree, place, has_place}
 use Rattle.sim_world.specs.Run.{loosened_outs, left_outs, out_changes, run_changes}
@@ -26,7 +28,8 @@ use Rattle.sim_world.specs.declared.value.PathValue.{PathValue}
 use Rattle.sim_world.specs.declared.rule.Given.{Given}
 use Rattle.sim_world.specs.declared.rule.Made.{Made}
 use Rattle.sim_world.specs.declared.change.Change.{Change}
-use Rattle.sim_world.specs.declared.change.Change.TheVariants.{Edited, Cleared, Loosened, Left, Ran}
+use Rattle.sim_world.specs.declared.change.Change.TheVariants.{Edited, Cleared, Loosened, Left, Ran, FolderMade, Written, Settled, Published}
+use Rattle.sim_world.proofs.BookLemmas.{stays_met}
 use Rattle.sim_world.proofs.ChangeLemmas.{Along, passes_along, replay-push, replay_tree}
 
 -- ---- steps of loops
@@ -65,18 +68,18 @@ replay_step cs i c old was new l is made grew =
 
 record Quiet (job : Job) (m n : Moment) : Type 0 where
   paths : KeepsPaths (is_in_any (out_paths job)) m n
-  aside : n.aside ≡ m.aside
+  aside : Stays itself m.aside n.aside
 
 quiet_in : (job : Job) (m n : Moment) → Quiet job m n → InRun job m n
-quiet_in job m n q = record { others = q.paths; aside = inl (record { fixed = ap (λ a. a.fixed) q.aside }) }
+quiet_in job m n q = record { others = q.paths; aside = inl q.aside }
 
 quiet_still : (job : Job) (m : Moment) → Quiet job m m
-quiet_still job m = record { paths = record { items = λ p e. refl; loose = λ p e. refl }; aside = refl }
+quiet_still job m = record { paths = record { items = λ p e. refl; loose = λ p e. refl }; aside = stays_itself m.aside }
 
 quiet_ran : (job : Job) (m n : Moment) → Quiet job m n → InRun job m (with_job job n)
 quiet_ran job m n q = record {
   others = record { items = q.paths.items; loose = q.paths.loose };
-  aside = inr (record { fixed = ap (λ a. ran_too job a.fixed) q.aside });
+  aside = inr (record { fixed = ap (ran_too job) q.aside.fixed; book = q.aside.book });
 }
 
 abbrev IsQuiet : Job → Moment → Change → Type 0
@@ -89,7 +92,7 @@ IsOut job at = (p : Path) → under at p ≡ true → is_in_any (out_paths job) 
 outside : (job : Job) (at p : Path) → IsOut job at → is_in_any (out_paths job) p ≡ false → under at p ≡ false
 outside job at p out e = false_from_ne_true (under at p) (λ u. false≢true (sym e ∙ out p u))
 
-left_other : (at : Path) (value : Value) (t : Tree) (p : Path) → under at p ≡ false → item_at (left_tree at value t) p ≡ item_at t p
+pub left_other : (at : Path) (value : Value) (t : Tree) (p : Path) → under at p ≡ false → item_at (left_tree at value t) p ≡ item_at t p
 left_other at value t p apart =
     let test : Path → Bool = λ q. not (under at q) in
     let kept : item_at (without at t) p ≡ item_at t p = item_kept t test p (not_from_false (under at p) apart) in
@@ -117,7 +120,7 @@ quiet_left job m at value out n q = record {
     items = λ p e. left_other at value n.tree p (outside job at p out e) ∙ q.paths.items p e;
     loose = λ p e. ap (λ (b : Bool). b || n.loose p) (outside job at p out e) ∙ q.paths.loose p e;
   };
-  aside = q.aside;
+  aside = stays_then itself m.aside n.aside (with_met value n.aside) q.aside (stays_met value n.aside);
 }
 
 all_quiet : (job : Job) (m : Moment) (change : Path → List ℕ → Change) → ((at : Path) (out : List ℕ) → IsOut job at → IsQuiet job m (change at out)) → (outs : List (List ℕ)) → ((p : Path) → is_in_any (map (path_from job.dir) outs) p ≡ true → is_in_any (out_paths job) p ≡ true) → AllByRecursion (IsQuiet job m) (map (λ out. change (path_from job.dir out) out) outs)
@@ -177,7 +180,7 @@ front_quiet job code made h cs new e f =
 pub front_stays : (job : Job) (code : ℤ) (made : Made) (h : History) (cs : List Change) (new : History) → cs ≡ run_changes job code made → IsFront cs h new → Stays itself h.present.aside new.present.aside
 front_stays job code made h cs new e f =
     let q = quiet_replay job h.present h f.front (front_quiet job code made h cs new e f) (quiet_still job h.present) in
-    record { fixed = ap (λ (k : History). k.present.aside.fixed) f.made ∙ ap (λ a. a.fixed) q.aside }
+    subst (λ (k : History). Stays itself h.present.aside k.present.aside) (sym f.made) q.aside
 
 pub front_passes : (job : Job) (code : ℤ) (made : Made) (h : History) (cs : List Change) (new : History) → cs ≡ run_changes job code made → IsFront cs h new → Passes (InRun job h.present) h new
 front_passes job code made h cs new e f =
@@ -250,6 +253,10 @@ changed_effect (Cleared at) m = refl
 changed_effect (Loosened at) m = refl
 changed_effect (Left at value) m = refl
 changed_effect (Ran job) m = refl
+changed_effect (FolderMade at) m = refl
+changed_effect (Written at value) m = refl
+changed_effect (Settled at) m = refl
+changed_effect (Published origin at value) m = refl
 
 replay_effect : (h : History) (cs : List Change) → (replay h cs).present.aside.fixed.effect ≡ h.present.aside.fixed.effect
 replay_effect h [] = refl
@@ -296,7 +303,8 @@ run_meets effect job code made t runs folders did =
 run_ran : (job : Job) (code : ℤ) (made : Made) (h : History) → Stays (ran_too job) h.present.aside (replay h (run_changes job code made)).present.aside
 run_ran job code made h =
     let q = quiet_replay job h.present h (out_changes job code made) (quiet_outs job h.present code made) (quiet_still job h.present) in
-    record { fixed = ap (λ (k : History). k.present.aside.fixed) (replay-push h (out_changes job code made) (Ran job)) ∙ ap (λ a. ran_too job a.fixed) q.aside }
+    subst (λ (k : History). Stays (ran_too job) h.present.aside k.present.aside) (sym (replay-push h (out_changes job code made) (Ran job)))
+    (record { fixed = ap (ran_too job) q.aside.fixed; book = q.aside.book })
 
 pub run_done : (effect : Given → Made → Step) (job : Job) (code : ℤ) (made : Made) (h : History) → is_runnable job ≡ true → HasFolders job h.present.tree → h.present.aside.fixed.effect ≡ Some (effect_of effect) → answered effect (plain_values (given_values h.present.tree job.dir job.deps)) job.outs job.commands (record { outs = unmade job.outs }) ≡ record { code = code; made = made } → IsRun job code h.present (replay h (run_changes job code made)).present
 run_done effect job code made h runs folders told_effect did = record {

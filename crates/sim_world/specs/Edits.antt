@@ -1,6 +1,8 @@
 -- What an edit and a run make of a tree.
 --     edited_tree at v t     the value stands at the path, in place of what stood there, and folders above it
 --     left_tree at v t       the same, where the folder above stands; else nothing changes
+--     made_tree at t         a folder in place of a file or of nothing, where the folder above stands
+--     published_tree o at v t     the value moved from the path o
 use Rattle.std.specs.Prelude.{ℕ, zero, suc, Bool, true, false, not, [], ◌∷◌, length, Option, Some, if◌then◌else◌}
 use Rattle.std.specs.FinMap.{insert, retain_keys}
 use Rattle.dvc_base.specs.Path.{Path, under}
@@ -47,3 +49,9 @@ place at (File bytes) t = insert t at (file bytes)
 
 abbrev pub left_tree : Path → Value → Tree → Tree
 left_tree at value t = if has_place t at then place at value (without at t) else t
+
+abbrev pub made_tree : Path → Tree → Tree
+made_tree at t = if has_place t at then insert t at folder else t
+
+abbrev pub published_tree : Path → Path → Value → Tree → Tree
+published_tree origin at value t = without origin (left_tree at value t)

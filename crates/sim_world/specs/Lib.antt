@@ -1,5 +1,6 @@
 pub mod Answer
 pub mod Applied
+pub mod Book
 pub mod Change
 pub mod Edits
 pub mod Entries
@@ -10,3 +11,4 @@ pub mod Stands
 pub mod Step
 pub mod Sunk
 pub mod TreeCode
+pub mod Writing

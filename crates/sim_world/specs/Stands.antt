@@ -2,7 +2,7 @@
 use Rattle.std.specs.Prelude.{◌≡◌, ◌≢◌, ℕ, zero, suc, true, false, cond, not, List, [], ◌∷◌, ◌++◌, length, Option, Some, None, IsSome, is_some, refl}
 use Rattle.std.proofs.Common.{sym, ap, ◌∙◌}
 use Rattle.std.specs.List.{AllByRecursion}
-use Rattle.std.specs.FinMap.{get}
+use Rattle.std.specs.FinMap.{get, insert}
 use Rattle.std.proofs.lemmas.Bool.{false≢true, false_from_ne_true, not_from_false, not_from_true}
 use Rattle.dvc_base.specs.Path.{Path, under}
 use Rattle.dvc_base.proofs.PathLemmas.{under-refl, under-trans, under-append}
@@ -11,10 +11,10 @@ use Rattle.world_api.specs.Effect.{Effect}
 use Rattle.world_api.specs.History.{Moment, History}
 use Rattle.world_api.specs.Calls.{parent}
 use Rattle.world_api.proofs.TreeLemmas.{tree-put, tree-without, get_put_other, item_put_same, get_gone, item_kept, under_parent, parent_apart, cons_not_root, long_not_root, parent-length, child_apart, none_long}
-use Rattle.sim_world.specs.Edits.{is_root, without, with_folders, folders_above, put_value, edited_tree, is_folder, has_place, place, left_tree}
+use Rattle.sim_world.specs.Edits.{is_root, without, with_folders, folders_above, put_value, edited_tree, is_folder, has_place, place, left_tree, made_tree}
 use Rattle.sim_world.specs.Change.{changed, grown, replay, history_of, opened}
 use Rattle.sim_world.specs.declared.change.Change.{Change}
-use Rattle.sim_world.specs.declared.change.Change.TheVariants.{Edited, Cleared, Loosened, Left, Ran}
+use Rattle.sim_world.specs.declared.change.Change.TheVariants.{Edited, Cleared, Loosened, Left, Ran, FolderMade, Written, Settled, Published}
 use Rattle.sim_world.specs.declared.value.Value.{Value}
 use Rattle.sim_world.specs.declared.value.Value.TheVariants.{Nothing, File}
 
@@ -64,7 +64,7 @@ tree-edited at value t is =
 
 -- ---- what a run leaves
 
-folder_is : (o : Option Item) → is_folder o ≡ true → o ≡ Some folder
+pub folder_is : (o : Option Item) → is_folder o ≡ true → o ≡ Some folder
 folder_is None e = absurd (false≢true e)
 folder_is (Some folder) e = refl
 folder_is (Some (file bytes)) e = absurd (false≢true e)
@@ -91,6 +91,13 @@ tree-left at value t is =
       | false ↦ λ e. is
     ] refl
 
+pub tree-made : (at : Path) (t : Tree) → IsTree t → IsTree (made_tree at t)
+tree-made at t is =
+    elim (has_place t at) as (λ b. has_place t at ≡ b → IsTree (cond b (insert t at folder) t)) [
+      | true ↦ λ e. let so = has_place-parts t at e in tree-put t at folder is so.0 so.1 (λ c some. refl)
+      | false ↦ λ e. is
+    ] refl
+
 -- ---- each moment
 
 abbrev HasTree : Moment → Type 0
@@ -102,6 +109,10 @@ moment-changed (Cleared at) m is = tree-without m.tree at is
 moment-changed (Loosened at) m is = is
 moment-changed (Left at value) m is = tree-left at value m.tree is
 moment-changed (Ran job) m is = is
+moment-changed (FolderMade at) m is = tree-made at m.tree is
+moment-changed (Written at value) m is = tree-left at value m.tree is
+moment-changed (Settled at) m is = is
+moment-changed (Published origin at value) m is = tree-without (left_tree at value m.tree) origin (tree-left at value m.tree is)
 
 replay-stands : (h : History) (cs : List Change) → IsTree h.present.tree → AllByRecursion (λ (m : Moment). IsTree m.tree) h.past → IsTree (replay h cs).present.tree × AllByRecursion (λ (m : Moment). IsTree m.tree) (replay h cs).past
 replay-stands h [] is all = (is, all)

@@ -20,6 +20,14 @@ pub(crate) enum Change {
     Left { at: Rel, value: Value },
     // The job has run.
     Ran { job: Job },
+    // A folder stands at the path, in place of a file there.
+    FolderMade { at: Rel },
+    // The value stands at the path, and may be lost in a stop.
+    Written { at: Rel, value: Value },
+    // What stands at or below the path is on the disk.
+    Settled { at: Rel },
+    // The value moved to the path, from another.
+    Published { from: Rel, at: Rel, value: Value },
 }
 
 impl Plain for Change {
@@ -41,6 +49,21 @@ impl Plain for Change {
             },
             Change::Ran { job } => Change::Ran {
                 job: job.copy(alloc)?,
+            },
+            Change::FolderMade { at } => Change::FolderMade {
+                at: at.copy(alloc)?,
+            },
+            Change::Written { at, value } => Change::Written {
+                at: at.copy(alloc)?,
+                value: value.copy(alloc)?,
+            },
+            Change::Settled { at } => Change::Settled {
+                at: at.copy(alloc)?,
+            },
+            Change::Published { from, at, value } => Change::Published {
+                from: from.copy(alloc)?,
+                at: at.copy(alloc)?,
+                value: value.copy(alloc)?,
             },
         })
     }
@@ -65,6 +88,10 @@ fn apply(alloc: Global, tree: &mut Tree, jobs: &mut Jobs, change: &Change) -> Re
             let job = job.copy(alloc)?;
             jobs.push(job)
         }
+        Change::FolderMade { at } => tree.make(alloc, at),
+        Change::Written { at, value } => tree.leave(alloc, at, value),
+        Change::Settled { at: _ } => Ok(()),
+        Change::Published { from, at, value } => tree.publish(alloc, from, at, value),
     }
 }
 

@@ -1,8 +1,10 @@
 // The files of a world in memory.
-ghost use Rattle.std.specs.Prelude.{◌≡◌, ◌≢◌, ◌≤◌, [], length, IfOk, OnOk, OnErr, IsOk};
+ghost use Rattle.std.specs.Prelude.{◌≡◌, ◌≢◌, ◌≤◌, false, [], length, IfOk, OnOk, OnErr, IsOk};
 ghost use Rattle.world_api.specs.Tree.{item_at};
 ghost use Rattle.world_api.specs.History.{Passes, HasCause};
 ghost use Rattle.world_api.specs.Calls.{kind_of, IsFileAt, ReadsFrom, IsRead, IsCleared, InClear};
+ghost use Rattle.dvc_base.specs.Path.{under};
+ghost use Rattle.world_api.specs.Writes.{dvc_path, lane_path, IsNoFileAt, HasRoom, IsFirmLane, InBegin, IsBegun, InAppend, IsAppended, InSettle, IsSettled, InPublish, IsPublished};
 ghost use Rattle.sim_world.specs.Change.{grown, cleared};
 
 use crate::change::Change;
@@ -50,6 +52,56 @@ impl<R: Rule> Files for SimWorld<R> {
         ensures count { OnOk result (⟦<SimWorld<R> as Ground>⟧.faults self.new ≡ ⟦<SimWorld<R> as Ground>⟧.faults self.old) }
     {
         let answer = self.log_clear(at);
+        self.counted(answer)
+    }
+
+    fn begin(&mut self, lane: u32) -> Result<(), Failed>
+        requires { IsNoFileAt (⟦<SimWorld<R> as Ground>⟧.history self.old).present.tree dvc_path }
+        ensures begun { OnOk result (IsBegun lane (⟦<SimWorld<R> as Ground>⟧.history self.new).present) }
+        ensures moments { Passes (InBegin lane (⟦<SimWorld<R> as Ground>⟧.history self.old).present)
+            (⟦<SimWorld<R> as Ground>⟧.history self.old) (⟦<SimWorld<R> as Ground>⟧.history self.new) }
+        ensures cause { HasCause (⟦<SimWorld<R> as Ground>⟧.faults self.old) (⟦<SimWorld<R> as Ground>⟧.faults self.new) result }
+        ensures count { OnOk result (⟦<SimWorld<R> as Ground>⟧.faults self.new ≡ ⟦<SimWorld<R> as Ground>⟧.faults self.old) }
+    {
+        let answer = self.log_begin(lane);
+        self.counted(answer)
+    }
+
+    fn append(&mut self, lane: u32, bytes: &[u8]) -> Result<(), Failed>
+        requires { IsFileAt (⟦<SimWorld<R> as Ground>⟧.history self.old).present.tree (lane_path lane) }
+        ensures appended { OnOk result (IsAppended lane bytes.now (⟦<SimWorld<R> as Ground>⟧.history self.old).present (⟦<SimWorld<R> as Ground>⟧.history self.new).present) }
+        ensures moments { Passes (InAppend lane (⟦<SimWorld<R> as Ground>⟧.history self.old).present)
+            (⟦<SimWorld<R> as Ground>⟧.history self.old) (⟦<SimWorld<R> as Ground>⟧.history self.new) }
+        ensures cause { HasCause (⟦<SimWorld<R> as Ground>⟧.faults self.old) (⟦<SimWorld<R> as Ground>⟧.faults self.new) result }
+        ensures count { OnOk result (⟦<SimWorld<R> as Ground>⟧.faults self.new ≡ ⟦<SimWorld<R> as Ground>⟧.faults self.old) }
+    {
+        let answer = self.log_append(lane, bytes);
+        self.counted(answer)
+    }
+
+    fn settle(&mut self, lane: u32) -> Result<(), Failed>
+        requires { IsFileAt (⟦<SimWorld<R> as Ground>⟧.history self.old).present.tree (lane_path lane) }
+        ensures settled { OnOk result (IsSettled lane (⟦<SimWorld<R> as Ground>⟧.history self.old).present (⟦<SimWorld<R> as Ground>⟧.history self.new).present) }
+        ensures moments { Passes (InSettle lane (⟦<SimWorld<R> as Ground>⟧.history self.old).present)
+            (⟦<SimWorld<R> as Ground>⟧.history self.old) (⟦<SimWorld<R> as Ground>⟧.history self.new) }
+        ensures cause { HasCause (⟦<SimWorld<R> as Ground>⟧.faults self.old) (⟦<SimWorld<R> as Ground>⟧.faults self.new) result }
+        ensures count { OnOk result (⟦<SimWorld<R> as Ground>⟧.faults self.new ≡ ⟦<SimWorld<R> as Ground>⟧.faults self.old) }
+    {
+        let answer = self.log_settle(lane);
+        self.counted(answer)
+    }
+
+    fn publish(&mut self, lane: u32, at: &Rel) -> Result<(), Failed>
+        requires apart { under (lane_path lane) at.now ≡ false }
+        requires settled { IsFirmLane lane (⟦<SimWorld<R> as Ground>⟧.history self.old).present }
+        requires room { HasRoom at.now (⟦<SimWorld<R> as Ground>⟧.history self.old).present.tree }
+        ensures published { OnOk result (IsPublished lane at.now (⟦<SimWorld<R> as Ground>⟧.history self.old).present (⟦<SimWorld<R> as Ground>⟧.history self.new).present) }
+        ensures moments { Passes (InPublish lane at.now (⟦<SimWorld<R> as Ground>⟧.history self.old).present)
+            (⟦<SimWorld<R> as Ground>⟧.history self.old) (⟦<SimWorld<R> as Ground>⟧.history self.new) }
+        ensures cause { HasCause (⟦<SimWorld<R> as Ground>⟧.faults self.old) (⟦<SimWorld<R> as Ground>⟧.faults self.new) result }
+        ensures count { OnOk result (⟦<SimWorld<R> as Ground>⟧.faults self.new ≡ ⟦<SimWorld<R> as Ground>⟧.faults self.old) }
+    {
+        let answer = self.log_publish(lane, at);
         self.counted(answer)
     }
 

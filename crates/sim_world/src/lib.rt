@@ -3,6 +3,7 @@
 
 mod change;
 mod files;
+mod lanes;
 mod pipe;
 mod rule;
 mod shell;

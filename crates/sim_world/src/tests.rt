@@ -136,6 +136,28 @@ fn put(rt: &impl Abort, world: &mut SimWorld<Pipe>, at: &Rel) -> Result<(), Fail
 }
 
 #[test]
+fn a_lane_is_published_over_a_file(rt: HostRuntime) -> Result<(), Fail> {
+    let alloc = rt.alloc();
+    let mut world = SimWorld::<Pipe>::new(alloc, Tree::new(alloc))?;
+    let out = path(alloc, "out")?;
+    let lane = path(alloc, ".dvc/tmp/new-10")?;
+    for bytes in [b"first".as_slice(), b"", b"third"] {
+        world.log_begin(10)?;
+        world.log_append(10, bytes)?;
+        world.log_append(10, b"!")?;
+        world.log_settle(10)?;
+        let size = bytes.len().saturating_add(1) as u64;
+        assert!(rt; world.tree().kind(&lane) == Kind::File { size });
+        world.log_publish(10, &out)?;
+        assert!(rt; world.tree().kind(&lane) == Kind::Missing);
+        assert!(rt; world.tree().kind(&out) == Kind::File { size });
+    }
+    assert!(rt; world.tree().file(&out) == Some(b"third!".as_slice()));
+    assert_eq!(rt; world.starved(), 0);
+    Ok(())
+}
+
+#[test]
 fn chosen_puts_fail(rt: HostRuntime) -> Result<(), Fail> {
     let alloc = rt.alloc();
     let mut fails = Numbers::new(alloc);

@@ -4,7 +4,7 @@ ghost use Rattle.std.specs.Ordering.{eq_by_cmp};
 ghost use Rattle.std.specs.FinMap.{find, insert, empty};
 ghost use Rattle.world_api.specs.Tree.{IsTree, item_at, path_cmp, folder};
 ghost use Rattle.world_api.specs.Calls.{kind_of, parent};
-ghost use Rattle.sim_world.specs.Edits.{is_root, is_folder, has_place, without, with_folders, edited_tree, left_tree, put_value, place};
+ghost use Rattle.sim_world.specs.Edits.{is_root, is_folder, has_place, without, with_folders, edited_tree, left_tree, made_tree, published_tree, put_value, place};
 ghost use Rattle.sim_world.specs.Found.{bytes_of};
 ghost use Rattle.std.specs.Prelude.{length, not};
 ghost use Rattle.sim_world.specs.Entries.{item_of, pairs_of, tree_of};
@@ -159,6 +159,36 @@ impl Tree {
         Ok(())
     }
 
+    // Puts a folder at the path in place of a file there, if the folder above it stands.
+    pub(crate) fn make(&mut self, alloc: Global, at: &Rel) -> Result<(), NoMemory>
+        ensures ok { OnOk result (self.new ≡ made_tree at.now self.old) }
+        ensures err { OnErr result (self.new ≡ self.old) }
+    {
+        if !self.has_place(alloc, at)? {
+            return Ok(());
+        }
+        let mut entries = copy_entries(alloc, &self.entries)?;
+        put(&mut entries, at.copy(alloc)?, Node::Folder)?;
+        self.entries = entries;
+        Ok(())
+    }
+
+    // Moves the value to the path, in place of what stands there, and takes away what stands where it came from.
+    pub(crate) fn publish(
+        &mut self,
+        alloc: Global,
+        from: &Rel,
+        at: &Rel,
+        value: &Value,
+    ) -> Result<(), NoMemory>
+        ensures ok { OnOk result (self.new ≡ published_tree from.now at.now value.now self.old) }
+        ensures err { OnErr result (self.new ≡ self.old) }
+    {
+        self.leave(alloc, at, value)?;
+        self.clear(from);
+        Ok(())
+    }
+
     fn has_place(&self, alloc: Global, at: &Rel) -> Result<bool, NoMemory>
         ensures told { IfOk result (λ has. has ≡ has_place self.now at.now) }
     {
@@ -169,7 +199,7 @@ impl Tree {
         Ok(self.is_folder(&above))
     }
 
-    fn is_folder(&self, at: &Rel) -> bool
+    pub(crate) fn is_folder(&self, at: &Rel) -> bool
         ensures told { result ≡ is_folder (item_at self.now at.now) }
     {
         if is_root(at) {

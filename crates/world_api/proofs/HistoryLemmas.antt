@@ -50,10 +50,11 @@ passes_on P Q a b c x f y = passes_then P a b c x (passes_weaker Q P b c f y)
 -- ---- `Stays`
 
 pub stays_itself : (a : Aside) → Stays itself a a
-stays_itself a = record { fixed = refl }
+stays_itself a = record { fixed = refl; book = λ d x e. e }
 
 pub stays_then : (change : Fixed → Fixed) (a b c : Aside) → Stays itself a b → Stays change b c → Stays change a c
-stays_then change a b c x y = record { fixed = y.fixed ∙ ap change x.fixed }
+stays_then change a b c x y =
+    record { fixed = y.fixed ∙ ap change x.fixed; book = λ d bytes e. y.book d bytes (x.book d bytes e) }
 
 -- ---- `KeepsPaths`, `Keeps`
 

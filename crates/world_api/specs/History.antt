@@ -1,9 +1,10 @@
 -- What a world tells: its present, its past moments, and a count of its failures.
 --     Moment              the tree, which of its paths are loose, and what stands beside the tree
+--     Book                contents that were met, each under its digest
 --     Passes P old new    each moment from the old present to the new one has P
 --     HasCause            an answer Failed comes only where the count rose
 -- A stop at a moment leaves a tree that agrees with it at each path that isn't loose.
-use Rattle.std.specs.Prelude.{◌≡◌, ℕ, ◌+◌, ◌-◌, ◌^◌, ◌≤◌, min, Bool, false, List, [], ◌∷◌, ◌++◌, Option, Result, OnErr}
+use Rattle.std.specs.Prelude.{◌≡◌, ℕ, ◌+◌, ◌-◌, ◌^◌, ◌≤◌, min, Bool, false, List, [], ◌∷◌, ◌++◌, Option, Some, Result, OnErr}
 use Rattle.std.specs.List.{AllByRecursion}
 use Rattle.std.specs.Borrow.{GName}
 use Rattle.dvc_base.specs.Path.{Path}
@@ -16,9 +17,14 @@ pub record Fixed : Type 0 where
   pub ran : List Job
   pub effect : Option Effect
 
+-- the contents that were met, by their digests
+abbrev pub Book : Type 0
+Book = List ℕ → Option (List ℕ)
+
 -- what is told beside the tree
 pub record Aside : Type 0 where
   pub fixed : Fixed
+  pub book : Book
 
 pub record Moment : Type 0 where
   pub tree : Tree
@@ -36,9 +42,14 @@ pub record Faults : Type 0 where
   pub origin : List GName
   pub count : ℕ
 
--- what stands beside the tree, after a change of it
+-- each entry of the first book is in the second
+abbrev pub Grows : Book → Book → Type 0
+Grows a b = (digest bytes : List ℕ) → a digest ≡ Some bytes → b digest ≡ Some bytes
+
+-- what stands beside the tree, after a change of it. A book may grow at any time
 pub record Stays (change : Fixed → Fixed) (a b : Aside) : Type 0 where
   pub fixed : b.fixed ≡ change a.fixed
+  pub book : Grows a.book b.book
 
 abbrev pub itself : Fixed → Fixed
 itself f = f

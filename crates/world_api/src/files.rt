@@ -1,9 +1,11 @@
-// The files of the workspace, as the tool reads and clears them.
-ghost use Rattle.std.specs.Prelude.{◌≡◌, ◌≢◌, ◌≤◌, [], length, IsTrue, IfOk, OnOk};
+// The files of the workspace, as the tool reads, clears and writes them.
+ghost use Rattle.std.specs.Prelude.{◌≡◌, ◌≢◌, ◌≤◌, false, [], length, IsTrue, IfOk, OnOk};
 ghost use Rattle.world_api.specs.Tree.{item_at, IsTree};
 ghost use Rattle.world_api.specs.History.{Moment, Passes, HasCause};
 ghost use Rattle.world_api.specs.Calls.{kind_of, IsFileAt, ReadsFrom, IsCleared, InClear};
+ghost use Rattle.world_api.specs.Writes.{dvc_path, lane_path, IsNoFileAt, HasRoom, IsFirmLane, InBegin, IsBegun, InAppend, IsAppended, InSettle, IsSettled, InPublish, IsPublished};
 ghost use Rattle.std.specs.List.{AllByRecursion};
+ghost use Rattle.dvc_base.specs.Path.{under};
 
 use crate::Ground;
 use dvc_base::{Failed, Rel};
@@ -42,6 +44,44 @@ pub trait Files: Ground {
         ensures cleared { IsTrue Self.tells → OnOk result (IsCleared at.now (Self.history self.new).present) }
         ensures moments { IsTrue Self.tells →
             Passes (InClear at.now (Self.history self.old).present) (Self.history self.old) (Self.history self.new) }
+        ensures cause { HasCause (Self.faults self.old) (Self.faults self.new) result };
+
+    /// Makes the lane an empty file, in place of what stands there. It makes the folders above it where they are
+    /// missing; a file in place of the lower one gives way.
+    fn begin(&mut self, lane: u32) -> Result<(), Failed>
+        requires { IsTrue Self.tells → IsNoFileAt (Self.history self.old).present.tree dvc_path }
+        ensures begun { IsTrue Self.tells → OnOk result (IsBegun lane (Self.history self.new).present) }
+        ensures moments { IsTrue Self.tells →
+            Passes (InBegin lane (Self.history self.old).present) (Self.history self.old) (Self.history self.new) }
+        ensures cause { HasCause (Self.faults self.old) (Self.faults self.new) result };
+
+    /// Puts the bytes at the end of the lane. They may be lost in a stop.
+    fn append(&mut self, lane: u32, bytes: &[u8]) -> Result<(), Failed>
+        requires { IsTrue Self.tells → IsFileAt (Self.history self.old).present.tree (lane_path lane) }
+        ensures appended { IsTrue Self.tells → OnOk result
+            (IsAppended lane bytes.now (Self.history self.old).present (Self.history self.new).present) }
+        ensures moments { IsTrue Self.tells →
+            Passes (InAppend lane (Self.history self.old).present) (Self.history self.old) (Self.history self.new) }
+        ensures cause { HasCause (Self.faults self.old) (Self.faults self.new) result };
+
+    /// Puts the lane on the disk, so that a stop leaves it whole.
+    fn settle(&mut self, lane: u32) -> Result<(), Failed>
+        requires { IsTrue Self.tells → IsFileAt (Self.history self.old).present.tree (lane_path lane) }
+        ensures settled { IsTrue Self.tells → OnOk result
+            (IsSettled lane (Self.history self.old).present (Self.history self.new).present) }
+        ensures moments { IsTrue Self.tells →
+            Passes (InSettle lane (Self.history self.old).present) (Self.history self.old) (Self.history self.new) }
+        ensures cause { HasCause (Self.faults self.old) (Self.faults self.new) result };
+
+    /// Moves a settled lane to the path, in place of a file there. The path is old or new at each moment, and never missing.
+    fn publish(&mut self, lane: u32, at: &Rel) -> Result<(), Failed>
+        requires apart { under (lane_path lane) at.now ≡ false }
+        requires settled { IsTrue Self.tells → IsFirmLane lane (Self.history self.old).present }
+        requires room { IsTrue Self.tells → HasRoom at.now (Self.history self.old).present.tree }
+        ensures published { IsTrue Self.tells → OnOk result
+            (IsPublished lane at.now (Self.history self.old).present (Self.history self.new).present) }
+        ensures moments { IsTrue Self.tells →
+            Passes (InPublish lane at.now (Self.history self.old).present) (Self.history self.old) (Self.history self.new) }
         ensures cause { HasCause (Self.faults self.old) (Self.faults self.new) result };
 
     /// At each moment that is told, the parent of each member is a folder.

@@ -6,11 +6,13 @@
 mod files;
 mod ground;
 mod job;
+mod lane;
 mod shell;
 mod sink;
 
 pub use files::{Files, Kind};
 pub use ground::Ground;
 pub use job::{Exit, Job};
+pub use lane::{dvc_path, lane_path, tmp_path};
 pub use shell::{Shell, World};
 pub use sink::Sink;

@@ -1,22 +1,16 @@
--- The relation of the form and the function that reads it are one.
-use Rattle.std.proofs.Common.{Some, sym, ap, ◌∙◌}
-use Rattle.std.specs.Option.{option_map}
-use Rattle.dvc_cli.specs.Form.{form_in, stage_of}
-use Rattle.dvc_cli.proofs.FormLaw.{IsForm-form_of, IsForm-same, form_of-none}
+-- What is read are the stages of the only forms that the text has.
+use Rattle.std.proofs.Common.{List, Some, None, option_map, ap, subst, sym, ◌∙◌}
+use Rattle.repro_core.specs.declared.stage.Stage.{Stage}
+use Rattle.dvc_cli.specs.Form.{stages_of, IsReading}
+use Rattle.dvc_cli.proofs.FormLaw.{reading-from_read}
 use Rattle.dvc_cli.proofs.form.read_form.Goals as goal
 
-pub returns-in-None-clause-read : goal.returns-in-None-clause-read
-returns-in-None-clause-read c = ap (option_map stage_of) (sym (form_of-none c.args.text.now c.in-None.ensures.by_form))
+pub returns-in-None-clause-form : goal.returns-in-None-clause-form
+returns-in-None-clause-form c =
+    reading-from_read c.args.text.now None (ap (option_map (λ fs. fs.items)) (sym c.in-None.is) ∙ c.in_ok-good_forms.ensures.read)
 
-pub returns-in_ok-stage_from-in-Some-clause-read :
-    goal.returns-in_ok-stage_from-in-Some-clause-read
-returns-in_ok-stage_from-in-Some-clause-read c =
-    let form = form_in c.in-Some.fields in
-    let found = IsForm-form_of c.args.text.now form c.in-Some.ensures.by_form in
-    ap Some c.in_ok-stage_from-in-Some.ensures.same ∙ ap (option_map stage_of) (sym found)
-
-pub returns-in_ok-stage_from-in-Some-clause-form :
-    goal.returns-in_ok-stage_from-in-Some-clause-form
-returns-in_ok-stage_from-in-Some-clause-form c =
-    let form = form_in c.in-Some.fields in
-    (form, (c.in-Some.ensures.by_form, c.in_ok-stage_from-in-Some.ensures.same, λ g h. IsForm-same c.args.text.now form g c.in-Some.ensures.by_form h))
+pub returns-in_ok-stages_from-in-Some-clause-form :
+    goal.returns-in_ok-stages_from-in-Some-clause-form
+returns-in_ok-stages_from-in-Some-clause-form c =
+    let reading = reading-from_read c.args.text.now (Some c.in-Some.forms.items) (ap (option_map (λ fs. fs.items)) (sym c.in-Some.is) ∙ c.in_ok-good_forms.ensures.read) in
+    subst (λ (stages : List Stage). IsReading c.args.text.now (Some stages)) (ap stages_of (sym c.deref.ensures.value) ∙ sym c.in_ok-stages_from-in-Some.ensures.same) reading

@@ -1,16 +1,30 @@
 -- The fields that pass their tests are ASCII.
-use Rattle.dvc_cli.specs.Form.{form_in}
-use Rattle.dvc_cli.proofs.FormBytes.{good_parts, name-ascii, command-ascii}
+use Rattle.std.proofs.Common.{IsTrue, subst, sym, ap, ◌∙◌, map}
+use Rattle.std.specs.List.{list_all}
+use Rattle.lock_files.specs.Word.{is_name, is_command}
+use Rattle.lock_files.proofs.WordLemmas.{name-ascii, command-ascii}
+use Rattle.dvc_cli.specs.Form.{Form}
+use Rattle.dvc_cli.proofs.FormLemmas.{good_parts, paths_parts}
 use Rattle.dvc_cli.proofs.form.stage_from.Goals as goal
 
 pub text_of-requires : goal.text_of-requires
-text_of-requires c = name-ascii c.args.fields.now.name.now (good_parts (form_in c.args.fields.now) c.requires).name
+text_of-requires c =
+    let g = good_parts c.args.form.now c.requires in
+    command-ascii c.form.inside.command.now (subst (λ (f : Form). IsTrue (is_command f.command)) (sym c.form.view_is) g.command)
 
-pub one_text-requires : goal.one_text-requires
-one_text-requires c = command-ascii c.args.fields.now.command.now (good_parts (form_in c.args.fields.now) c.requires).command
+pub texts_of-requires : goal.texts_of-requires
+texts_of-requires c =
+    let g = good_parts c.args.form.now c.requires in
+    let outs = (paths_parts c.args.form.now.outs g.outs).names in
+    ap (λ xs. list_all is_name (map (λ name. name.now) xs)) c.deref.ensures.value ∙ subst (λ (f : Form). IsTrue (list_all is_name f.outs)) (sym c.form.view_is) outs
 
-pub one_text-requires-2 : goal.one_text-requires-2
-one_text-requires-2 c = name-ascii c.args.fields.now.dep.now (good_parts (form_in c.args.fields.now) c.requires).dep
+pub text_of-requires-2 : goal.text_of-requires-2
+text_of-requires-2 c =
+    let g = good_parts c.args.form.now c.requires in
+    name-ascii c.form.inside.name.now (subst (λ (f : Form). IsTrue (is_name f.name)) (sym c.form.view_is) g.name)
 
-pub one_text-requires-3 : goal.one_text-requires-3
-one_text-requires-3 c = name-ascii c.args.fields.now.out.now (good_parts (form_in c.args.fields.now) c.requires).out
+pub texts_of-requires-2 : goal.texts_of-requires-2
+texts_of-requires-2 c =
+    let g = good_parts c.args.form.now c.requires in
+    let deps = (paths_parts c.args.form.now.deps g.deps).names in
+    ap (λ xs. list_all is_name (map (λ name. name.now) xs)) c.deref-2.ensures.value ∙ subst (λ (f : Form). IsTrue (list_all is_name f.deps)) (sym c.form.view_is) deps

@@ -1,5 +1,5 @@
 -- The clears keep what stands for the job, the run is of the same as at the start, and the look sees what it left.
-use Rattle.std.proofs.Common.{◌≡◌, ◌∙◌, List, [], ◌∷◌, map, Some, None, subst, sym}
+use Rattle.std.proofs.Common.{◌≡◌, ◌∙◌, List, map, Some, None, subst, sym}
 use Rattle.std.proofs.lemmas.Result.{err_from_is_err_and}
 use Rattle.dvc_base.specs.Path.{Path}
 use Rattle.world_api.specs.Tree.{value_at}
@@ -10,11 +10,11 @@ use Rattle.world_api.specs.declared.job.Job.{Job}
 use Rattle.world_api.proofs.HistoryLemmas.{passes_weaker, passes_on}
 use Rattle.repro_core.specs.Stage.{job_of, stage_outs, IsReady}
 use Rattle.repro_core.specs.Due.{out_fault}
-use Rattle.repro_core.specs.Answer.{fault_in, IsAnswer, InRepro}
-use Rattle.repro_core.specs.Steps.{WasRun}
+use Rattle.repro_core.specs.Answer.{fault_in, IsAnswer}
+use Rattle.repro_core.specs.Steps.{WasRun, InAnew}
 use Rattle.repro_core.specs.declared.stage.Stage.{Stage}
 use Rattle.repro_core.proofs.AnewLemmas.{folders_kept}
-use Rattle.repro_core.proofs.TurnLemmas.{repro_of_keeps, repro_of_run, answer_of_run, answer_of_look, headline_of_look}
+use Rattle.repro_core.proofs.TurnLemmas.{anew_of_keeps, anew_of_run, answer_of_run, answer_of_look, made_of_look, files_of_look}
 use Rattle.repro_core.proofs.outcome.run_anew.Goals as goal
 
 -- the moments of the clears, and those up to the run's end
@@ -22,11 +22,11 @@ cleared_moments : (s : Stage) (outs : List Path) (start cleared : History) → o
 cleared_moments s outs start cleared e h =
     subst (λ (ps : List Path). Passes (Keeps (is_in_any ps) start.present) start cleared) e h
 
-run_moments : (s : Stage) (job : Job) (start cleared ran : History) → IsReady s → job ≡ job_of s → Passes (Keeps (is_in_any (stage_outs s)) start.present) start cleared → Passes (InRun job cleared.present) cleared ran → Passes (InRepro (s ∷ []) start.present) start ran
+run_moments : (s : Stage) (job : Job) (start cleared ran : History) → IsReady s → job ≡ job_of s → Passes (Keeps (is_in_any (stage_outs s)) start.present) start cleared → Passes (InRun job cleared.present) cleared ran → Passes (InAnew s start.present) start ran
 run_moments s job start cleared ran ready e clears run =
     let of_job : Passes (InRun (job_of s) cleared.present) cleared ran =
     subst (λ (j : Job). Passes (InRun j cleared.present) cleared ran) e run in
-    passes_on (InRepro (s ∷ []) start.present) (InRun (job_of s) cleared.present) start cleared ran (passes_weaker (Keeps (is_in_any (stage_outs s)) start.present) (InRepro (s ∷ []) start.present) start cleared (λ m h. repro_of_keeps s start.present m h) clears) (λ m h. repro_of_run s start.present cleared.present m ready clears.now h) of_job
+    passes_on (InAnew s start.present) (InRun (job_of s) cleared.present) start cleared ran (passes_weaker (Keeps (is_in_any (stage_outs s)) start.present) (InAnew s start.present) start cleared (λ m h. anew_of_keeps s start.present m h) clears) (λ m h. anew_of_run s start.present cleared.present m ready clears.now h) of_job
 
 pub returns-in_default-clause-moments : goal.returns-in_default-clause-moments
 returns-in_default-clause-moments g c told =
@@ -34,7 +34,7 @@ returns-in_default-clause-moments g c told =
     let start = g.W.Ground.history c.args.world.now in
     let cleared = g.W.Ground.history c.clear_outputs.new.world in
     let clears = cleared_moments s c.as_slice.result.now start cleared (c.as_slice.ensures.same ∙ c.requires.plan.outs) (c.clear_outputs.ensures.moments told) in
-    passes_weaker (Keeps (is_in_any (stage_outs s)) start.present) (InRepro (s ∷ []) start.present) start cleared (λ m h. repro_of_keeps s start.present m h) clears
+    passes_weaker (Keeps (is_in_any (stage_outs s)) start.present) (InAnew s start.present) start cleared (λ m h. anew_of_keeps s start.present m h) clears
 
 pub run_job-requires-clause-folders : goal.run_job-requires-clause-folders
 run_job-requires-clause-folders g c told =
@@ -79,8 +79,8 @@ returns-clause-answer g c told =
     let look = subst (λ (ps : List Path). IsAnswer (fault_in c.look_at_outputs.result) (out_fault s.name ps (map (value_at ran.present.tree) ps))) outs (c.look_at_outputs.ensures.answer told) in
     answer_of_look s start.present cleared.present ran.present (fault_in c.look_at_outputs.result) c.requires.ready (c.requires.deps told) clears.now run look
 
-pub returns-clause-headline : goal.returns-clause-headline
-returns-clause-headline g c told =
+pub returns-clause-made : goal.returns-clause-made
+returns-clause-made g c told =
     let s = c.args.stage.now in
     let start = g.W.Ground.history c.args.world.now in
     let cleared = g.W.Ground.history c.clear_outputs.new.world in
@@ -90,10 +90,15 @@ returns-clause-headline g c told =
     subst (λ (job : Job). WasRun job s.name None cleared.present ran.present) c.requires.plan.job (c.in_ok-run_job.ensures.ran told) in
     let outs : c.as_slice-2.result.now ≡ stage_outs s = c.as_slice-2.ensures.same ∙ c.requires.plan.outs in
     let look = subst (λ (ps : List Path). IsAnswer (fault_in c.look_at_outputs.result) (out_fault s.name ps (map (value_at ran.present.tree) ps))) outs (c.look_at_outputs.ensures.answer told) in
-    let tree = (g.met.W.Files.stands c.args.world.now told).0 in
-    let moments = run_moments s c.args.plan.now.job start cleared ran c.requires.ready c.requires.plan.job clears (c.run_job.ensures.moments told) in
-    let whole = headline_of_look s start.present cleared.present ran.present c.look_at_outputs.result c.requires.ready tree (c.requires.folders told) (c.requires.deps told) clears.now run moments.now look in
-    rw (c.look_at_outputs.ensures.unchanged told) whole
+    rw (c.look_at_outputs.ensures.unchanged told) (made_of_look s start.present cleared.present ran.present c.look_at_outputs.result c.requires.ready (c.requires.deps told) clears.now run look)
+
+pub returns-clause-files : goal.returns-clause-files
+returns-clause-files g c told =
+    let s = c.args.stage.now in
+    let ran = g.W.Ground.history c.run_job.new.world in
+    let outs : c.as_slice-2.result.now ≡ stage_outs s = c.as_slice-2.ensures.same ∙ c.requires.plan.outs in
+    let look = subst (λ (ps : List Path). IsAnswer (fault_in c.look_at_outputs.result) (out_fault s.name ps (map (value_at ran.present.tree) ps))) outs (c.look_at_outputs.ensures.answer told) in
+    rw (c.look_at_outputs.ensures.unchanged told) (files_of_look s ran.present c.look_at_outputs.result look)
 
 pub returns-clause-moments : goal.returns-clause-moments
 returns-clause-moments g c told =
@@ -103,4 +108,4 @@ returns-clause-moments g c told =
     let ran = g.W.Ground.history c.run_job.new.world in
     let clears = cleared_moments s c.as_slice.result.now start cleared (c.as_slice.ensures.same ∙ c.requires.plan.outs) (c.clear_outputs.ensures.moments told) in
     let moments = run_moments s c.args.plan.now.job start cleared ran c.requires.ready c.requires.plan.job clears (c.run_job.ensures.moments told) in
-    subst (λ (h : History). Passes (InRepro (s ∷ []) start.present) start h) (sym (c.look_at_outputs.ensures.unchanged told)) moments
+    subst (λ (h : History). Passes (InAnew s start.present) start h) (sym (c.look_at_outputs.ensures.unchanged told)) moments

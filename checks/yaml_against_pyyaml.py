@@ -1,0 +1,233 @@
+#!/usr/bin/env python3
+"""Compares the reader of YAML with PyYAML on random documents of the part that both read: their structure and their texts.
+
+The program `yaml_dump` has to be built (`rt ci` leaves it at crates/yaml_dump/out/yaml_dump). Where PyYAML isn't
+installed, nothing is compared. Each document comes from a seed, and the first that differs is printed.
+"""
+import os
+import random
+import subprocess
+import sys
+import tempfile
+
+TOP = os.path.dirname(os.path.dirname(os.path.abspath(__file__)))
+DUMP = os.path.join(TOP, "crates", "yaml_dump", "out", "yaml_dump")
+WORDS = ["a", "b c", "x1", "null", "true", "No", "12", "-3", "0x1F", "1.5", "1e3", ".5", "~", "a#b", "a:b", "it's", "é", "日本", "-x", "?y", "a, b", "<", "=", "a\\b"]
+# In flow forms PyYAML takes no plain scalar that begins with `?`.
+PLAIN_IN_FLOW = [word for word in WORDS if "," not in word and word[0] != "?"]
+QUOTED = ["", " ", " a ", "a: b", "# c", "- d", "a\nb", "a\n\nb", "tab\there", "'", '"', "[x]", "{", "}", "%", "@", "`", "null", "\x07", "\u2028", "😀", "a\\nb"]
+
+PRINTED = [text for text in QUOTED if text.isprintable()]
+
+
+class Writer:
+    """A random document, written as text in a random style."""
+
+    def __init__(self, seed):
+        self.random = random.Random(seed)
+
+    def some(self, choices):
+        return self.random.choice(choices)
+
+    def comment(self):
+        return self.some(["", "", "", " # note", "  #"])
+
+    def blank(self):
+        return self.some([""] * 6 + ["\n", "# line\n", "  \n", "\n\n"])
+
+    def document(self):
+        text = self.some(["", "", "---\n", "# first\n---  # here\n", "\n\n"])
+        text += self.block(0, 0)
+        return text + self.some(["", "", "...\n", "... # end\n", "\n# last\n"])
+
+    # a node on lines of its own at this indentation, with its line end
+    def block(self, column, depth):
+        kind = self.some(["map", "map", "list", "list", "scalar"]) if depth < 5 else "scalar"
+        if kind == "map":
+            return self.mapping(column, depth)
+        if kind == "list":
+            return self.sequence(column, depth)
+        return " " * column + self.inline(column - 1) + self.comment() + "\n"
+
+    def mapping(self, column, depth):
+        text = ""
+        for number in range(self.random.randint(1, 4)):
+            text += self.blank() + " " * column + self.key(number) + self.some(["", "", " "]) + ":" + self.value(column, depth)
+        return text
+
+    def key(self, number):
+        word = self.some(WORDS) + str(number)
+        return self.some([word, word, self.single(word), self.double(word)])
+
+    def value(self, column, depth):
+        where = self.some(["beside", "beside", "below", "below", "none", "literal"])
+        if where == "none":
+            return self.comment() + "\n"
+        if where == "literal":
+            return " " + self.literal(column)
+        if where == "beside":
+            return self.some([" ", "  "]) + self.inline(column) + self.comment() + "\n"
+        if depth < 5 and self.some([True, False, False]):
+            return self.comment() + "\n" + self.sequence(column, depth + 1)
+        return self.comment() + "\n" + self.block(column + self.random.randint(1, 4), depth + 1)
+
+    def sequence(self, column, depth):
+        text = ""
+        for _ in range(self.random.randint(1, 4)):
+            text += self.blank() + " " * column + "-" + self.item(column, depth)
+        return text
+
+    def item(self, column, depth):
+        where = self.some(["beside", "beside", "beside", "below", "none", "literal", "compact"])
+        if where == "none":
+            return self.comment() + "\n"
+        if where == "literal":
+            return " " + self.literal(column)
+        if where == "beside" or depth >= 5:
+            return " " + self.inline(column) + self.comment() + "\n"
+        if where == "below":
+            return self.comment() + "\n" + self.block(column + self.random.randint(1, 4), depth + 1)
+        return self.compact(self.random.randint(1, 3), column)
+
+    # a collection that begins on the dash's line
+    def compact(self, gap, column):
+        deeper = column + 1 + gap
+        parts = [self.some(["- ", self.key(number) + ": "]) for number in range(self.random.randint(1, 3))]
+        same = [part for part in parts if (part == "- ") == (parts[0] == "- ")]
+        return " " * gap + (" " * deeper).join(part + self.inline(deeper) + "\n" for part in same)
+
+    # a scalar or flow form on a line, whose further lines are deeper than the parent
+    def inline(self, parent):
+        kind = self.some(["plain", "plain", "plain", "single", "double", "flow", "folded"])
+        if kind == "plain":
+            return self.some(WORDS)
+        if kind == "single":
+            return self.single(self.some(PRINTED))
+        if kind == "double":
+            return self.double(self.some(QUOTED))
+        if kind == "folded":
+            return self.folded(parent)
+        return self.flow(parent, 0)
+
+    def folded(self, parent):
+        below = "\n" * self.random.randint(1, 3) + " " * (max(parent, 0) + self.random.randint(1, 3))
+        words = [self.some(["one", "two", "three"]) for _ in range(self.random.randint(2, 3))]
+        quote = self.some(["", "'", '"'])
+        return quote + below.join(words) + quote
+
+    @staticmethod
+    def single(text):
+        return "'" + text.replace("'", "''") + "'"
+
+    def double(self, text):
+        out = ""
+        for character in text:
+            code = ord(character)
+            if character in '"\\':
+                out += "\\" + character
+            elif character == "\n":
+                out += "\\n"
+            elif code < 32 or code == 0x2028 or self.random.random() < 0.1:
+                out += f"\\x{code:02x}" if code < 256 else (f"\\u{code:04x}" if code < 65536 else f"\\U{code:08x}")
+            else:
+                out += character
+        return '"' + out + '"'
+
+    def gap(self, parent):
+        return self.some(["", "", " ", "\n" + " " * (max(parent, 0) + 1), " # in\n" + " " * (max(parent, 0) + 2)])
+
+    def flow(self, parent, depth):
+        if depth > 2:
+            return self.some(PLAIN_IN_FLOW)
+        if self.some([True, False]):
+            parts = [self.flow_value(parent, depth) for _ in range(self.random.randint(0, 3))]
+            return "[" + self.gap(parent) + (", " + self.gap(parent)).join(parts) + self.gap(parent) + "]"
+        parts = []
+        for number in range(self.random.randint(0, 3)):
+            parts.append(self.some(["k", "key "]).strip() + str(number) + ": " + self.flow_value(parent, depth))
+        return "{" + self.gap(parent) + (", " + self.gap(parent)).join(parts) + self.gap(parent) + "}"
+
+    def flow_value(self, parent, depth):
+        kind = self.some(["plain", "single", "double", "flow"])
+        if kind == "plain":
+            return self.some(PLAIN_IN_FLOW)
+        if kind == "single":
+            return self.single(self.some(["", "a", "it's", "x: y"]))
+        if kind == "double":
+            return self.double(self.some(QUOTED))
+        return self.flow(parent, depth + 1)
+
+    def literal(self, column):
+        indent = " " * (column + self.random.randint(1, 4))
+        lines = [self.some(["one", "two  three", "# no comment", "- x", "k: v", "  deeper", ""]) for _ in range(self.random.randint(1, 5))]
+        lines[0] = self.some(["one", "first: line"])
+        text = "".join((indent + line if line else "") + "\n" for line in lines)
+        return self.some(["|", ">"]) + self.some(["", "-", "+"]) + self.comment() + "\n" + text
+
+
+def read_node(lines):
+    kind, _, rest = next(lines).partition(" ")
+    if kind == "items":
+        return [read_node(lines) for _ in range(int(rest))]
+    if kind == "pairs":
+        return [(bytes.fromhex(next(lines)[5:]).decode(), read_node(lines)) for _ in range(int(rest))]
+    if kind == "text":
+        return ("text", bytes.fromhex(rest).decode())
+    return (kind, rest)
+
+
+# Whether the node is the one that PyYAML made without kinds: mappings, lists and texts as written.
+def agrees(node, other):
+    if isinstance(other, dict):
+        return isinstance(node, list) and [p[0] for p in node] == list(other) and all(agrees(v, other[k]) for k, v in node)
+    if isinstance(other, list):
+        return isinstance(node, list) and len(node) == len(other) and all(agrees(a, b) for a, b in zip(node, other))
+    if other is None or not isinstance(node, tuple):
+        return other is None and node == ("null", "")
+    kind, text = node
+    if kind == "null":
+        return other in ("", "~", "null", "Null", "NULL")
+    if kind in ("true", "false"):
+        return other.lower() == kind
+    return other == text
+
+
+def compare(yaml, seeds):
+    texts = [Writer(seed).document() for seed in seeds]
+    with tempfile.TemporaryDirectory() as folder:
+        names = [f"{seed}.yaml" for seed in seeds]
+        for name, text in zip(names, texts):
+            with open(os.path.join(folder, name), "w", encoding="utf-8", newline="") as file:
+                file.write(text)
+        done = subprocess.run([DUMP] + names, cwd=folder, capture_output=True, check=True)
+    blocks = ("\n" + done.stdout.decode()).split("\nfile ")[1:]
+    read = 0
+    for text, block in zip(texts, blocks):
+        lines = block.rstrip("\n").split("\n")[1:]
+        try:
+            other = yaml.load(text, Loader=getattr(yaml, "CBaseLoader", yaml.BaseLoader))
+        except yaml.YAMLError as error:
+            other = error
+        refused = lines[0].startswith(("syntax", "duplicate", "too"))
+        if isinstance(other, Exception) != refused or (not refused and not agrees(read_node(iter(lines)), other)):
+            print(f"--- text\n{text}\n--- here\n" + "\n".join(lines) + f"\n--- PyYAML\n{other!r}")
+            raise SystemExit(1)
+        read += not refused
+    return read
+
+
+def main():
+    try:
+        import yaml
+    except ImportError:
+        print("YAML: no PyYAML here, so nothing was compared")
+        return
+    if not os.access(DUMP, os.X_OK):
+        raise SystemExit("yaml_dump isn't built: run rt ci first")
+    count = int(sys.argv[1]) if len(sys.argv) > 1 else 4000
+    read = sum(compare(yaml, range(start, min(start + 200, count))) for start in range(0, count, 200))
+    print(f"YAML: {count} documents read as PyYAML reads them, {read} of them to a node")
+
+
+if __name__ == "__main__":
+    main()

@@ -1,0 +1,43 @@
+-- What may happen to a workspace: edits, commands and stops, in any order.
+--     IsReached book effect n     the moment may be reached; the book has what the commands until then met
+--     LivesAreSound               each moment that may be reached is sound
+-- One book stands for a whole life: it has one content under each digest.
+use Rattle.std.specs.Prelude.{◌≡◌, ℕ, false, List, Some, None}
+use Rattle.dvc_base.specs.Path.{Path}
+use Rattle.world_api.specs.Tree.{item_at}
+use Rattle.world_api.specs.Effect.{Effect}
+use Rattle.world_api.specs.History.{Moment}
+use Rattle.repro_core.specs.Book.{Book}
+use Rattle.repro_core.specs.Moments.{lock_path}
+use Rattle.repro_core.specs.Sound.{IsSound, IsImage, IsMetSince}
+use Rattle.repro_core.specs.declared.stage.Stage.{Stage}
+use Rattle.dvc_cli.specs.Plan.{plan_of}
+use Rattle.dvc_cli.specs.Repro.{InCommand}
+
+-- nothing is remembered, and all that stands there is on the disk
+pub record IsFresh (n : Moment) : Type 0 where
+  pub none : item_at n.tree lock_path ≡ None
+  pub firm : (p : Path) → n.loose p ≡ false
+
+-- an edit leaves the lock as it is, and makes nothing loose that the tool relies upon
+pub record IsEdit (m n : Moment) : Type 0 where
+  pub lock : item_at n.tree lock_path ≡ item_at m.tree lock_path
+  pub firm : (p : Path) → m.loose p ≡ false → n.loose p ≡ false
+
+-- a stop leaves an image of the moment, and all of that is on the disk
+pub record IsStop (m n : Moment) : Type 0 where
+  pub image : IsImage m n.tree
+  pub firm : (p : Path) → n.loose p ≡ false
+
+-- what a command read and wrote, from its start to its end, is in the book: no two contents met share an MD5
+pub record IsMet (book : Book) (m end : Moment) : Type 0 where
+  pub met : (stages : List Stage) → plan_of m.tree ≡ Some stages → IsMetSince book stages m end
+
+pub data IsReached (book : Book) (effect : Effect) : Moment → Type 0 where
+  fresh : (n : Moment) → IsFresh n → IsReached book effect n
+  edited : (m n : Moment) → IsReached book effect m → IsEdit m n → IsReached book effect n
+  commanded : (words : List (List ℕ)) (m end n : Moment) → IsReached book effect m → IsMet book m end → InCommand words effect m end n → IsReached book effect n
+  stopped : (m n : Moment) → IsReached book effect m → IsStop m n → IsReached book effect n
+
+abbrev pub LivesAreSound : Type 0
+LivesAreSound = (book : Book) (effect : Effect) (n : Moment) → IsReached book effect n → IsSound book effect n

@@ -1,0 +1,8 @@
+// A law of the definitions: what commands leave can be relied upon, whatever happens between them.
+ghost use Rattle.dvc_cli.specs.Life.{LivesAreSound};
+
+/// After any list of edits, commands and stops at any moment of a command, each moment is sound: what is remembered is
+/// true, and no stop changes it. Where a command begins at such a moment, `dvc` has its clauses on what it leaves.
+pub fn life_law()
+    ensures { LivesAreSound }
+{}

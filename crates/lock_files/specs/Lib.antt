@@ -1,0 +1,5 @@
+pub mod Word
+pub mod Book
+pub mod Lock
+pub mod Form
+pub mod Read

@@ -1,0 +1,314 @@
+-- The run of a stage up to its lock: what it has made, and what each of its moments is.
+--     can_write                        the run leaves the place of the lock as it was
+--     moments_of_anew, moments_of_record     each moment is one of a turn
+--     entry_of_run, runs_of_record     what the run has read and made stands once the lock is written
+--     stopped_early, left_of_record    the lock after a run that didn't end well
+use Rattle.std.proofs.Common.{◌≡◌, ◌≢◌, ◌⊎◌, ℕ, true, false, List, [], ◌∷◌, ◌++◌, map, codes, refl, sym, ap, subst, ◌∙◌, inl, inr, Some, None, IfSome, Result, Ok, Err, IfErr, OnOk}
+use Rattle.std.specs.Prelude.{bytes_eq}
+use Rattle.std.proofs.lemmas.Slice.Eq.{bytes_eq-Decides}
+use Rattle.std.specs.List.{AllByRecursion, flat_map}
+use Rattle.std.proofs.lemmas.Bool.{false≢true, false_from_ne_true, both_ways, and_parts, and_from, or_parts, or_from, or_cases}
+use Rattle.std.proofs.lemmas.List.{append-nil}
+use Rattle.dvc_base.specs.Path.{Path, under}
+use Rattle.dvc_base.specs.declared.fault.Fault.{Fault}
+use Rattle.dvc_base.specs.declared.fault.Fault.TheVariants.{NoMemory, WorldFault}
+use Rattle.dvc_base.proofs.PathLemmas.{under-refl, under-overlap}
+use Rattle.world_api.specs.Tree.{Tree, Value, folder, file, IsTree, item_at, value_at}
+use Rattle.world_api.specs.Effect.{Effect, gives, path_from, invocation_of, is_in_any}
+use Rattle.world_api.specs.History.{Fixed, Moment, History, KeepsPaths, Passes}
+use Rattle.world_api.specs.Calls.{IsFileAt, parent}
+use Rattle.world_api.specs.Writes.{dvc_path, tmp_path, is_at, IsSameAt, IsSameUnder, IsMade, IsNewFile, IsNoFileAt, in_scratch, InWrite, IsNoScratch, CanWrite}
+use Rattle.world_api.specs.declared.job.Job.{Job}
+use Rattle.world_api.proofs.HistoryLemmas.{keeps_paths_then, keeps_paths_in, passes_weaker, passes_on}
+use Rattle.world_api.proofs.LaneLemmas.{at_itself, apart_dvc}
+use Rattle.world_api.proofs.ValueLemmas.{value_same}
+use Rattle.world_api.proofs.WriteLemmas.{same_under_then, made_then_made}
+use Rattle.lock_files.specs.declared.entry.Entry.{Entry}
+use Rattle.lock_files.specs.Book.{Lock, set}
+use Rattle.lock_files.specs.Lock.{lock_text}
+use Rattle.repro_core.specs.Stage.{job_of, dep_paths, stage_outs, in_order, IsReady}
+use Rattle.repro_core.specs.Due.{dep_fault}
+use Rattle.repro_core.specs.Entries.{named_paths, IsPresent}
+use Rattle.repro_core.specs.Turns.{standing, Runs}
+use Rattle.repro_core.specs.Headline.{IsKept}
+use Rattle.repro_core.specs.declared.stage.Choice.TheVariants.{Run}
+use Rattle.repro_core.specs.Moments.{lock_path, is_record, in_turns, HaveRun, AreSized, IsEntryOf, IsRecorded, InTurns, IsNext, IsLeftLock}
+use Rattle.repro_core.specs.Steps.{InAnew, IsRecordFault}
+use Rattle.repro_core.specs.declared.stage.Stage.{Stage}
+use Rattle.repro_core.proofs.OrderLemmas.{all_in_order}
+use Rattle.repro_core.proofs.AnewLemmas.{each_both, each_from, files_of_deps, deps_outside, outs_apart, roots_apart}
+use Rattle.repro_core.proofs.StepLaw.{same_given}
+use Rattle.repro_core.proofs.EntryLaw.{present_all}
+use Rattle.repro_core.proofs.NamesLemmas.{same_names}
+use Rattle.repro_core.proofs.TurnLemmas.{grows_then, if_some, if_some_at}
+
+-- ---- the tool's own paths lie apart from the outputs
+
+own_apart : (p : Path) → is_record p ≡ false → IsNoScratch p
+own_apart p h =
+    let scratch = (or_parts (under lock_path p) (in_scratch p) h).1 in
+    let parts = or_parts (is_at dvc_path p) (under tmp_path p) scratch in
+    record {
+      no_dvc = λ e. both_ways (is_at dvc_path p) parts.0 (subst (λ (q : Path). is_at dvc_path q ≡ true) (sym e) (at_itself dvc_path));
+      no_tmp = parts.1;
+    }
+
+dvc_apart : (outs : List Path) → AllByRecursion (λ p. p ≢ []) outs → AllByRecursion (λ p. is_record p ≡ false) outs → is_in_any outs dvc_path ≡ false
+dvc_apart [] roots kept = refl
+dvc_apart (p ∷ ps) roots kept =
+    or_from (under p dvc_path) (is_in_any ps dvc_path) (apart_dvc p roots.0 (own_apart p kept.0)) (dvc_apart ps roots.1 kept.1)
+
+-- what lies above a path of one part is the root or that path
+one_part : (c : List ℕ) (p : Path) → p ≢ [] → under p (c ∷ []) ≡ true → under (c ∷ []) p ≡ true
+one_part c [] root h = absurd (root refl)
+one_part c (d ∷ []) root h =
+    let same : d ≡ c = (bytes_eq-Decides d c).0 (and_parts (bytes_eq d c) true h).0 in
+    and_from (bytes_eq c d) true ((bytes_eq-Decides c d).1 (sym same)) refl
+one_part c (d ∷ e ∷ p) root h = absurd (false≢true (and_parts (bytes_eq d c) false h).1)
+
+lock_one_part : (p : Path) → p ≢ [] → under p lock_path ≡ true → under lock_path p ≡ true
+unfolding lock_path
+lock_one_part p root h = one_part (codes "dvc.lock") p root h
+
+lock_apart : (out p : Path) → out ≢ [] → is_record out ≡ false → under lock_path p ≡ true → under out p ≡ false
+lock_apart out p root kept below =
+    let outside = (or_parts (under lock_path out) (in_scratch out) kept).0 in
+    false_from_ne_true (under out p) (λ e. elim (or_cases (under out lock_path) (under lock_path out) (under-overlap out lock_path p e below)) [
+      | inl above ↦ both_ways (under lock_path out) outside (lock_one_part out root above)
+      | inr within ↦ both_ways (under lock_path out) outside within
+    ])
+
+lock_outside : (outs : List Path) (p : Path) → AllByRecursion (λ q. q ≢ []) outs → AllByRecursion (λ q. is_record q ≡ false) outs → under lock_path p ≡ true → is_in_any outs p ≡ false
+lock_outside [] p roots kept below = refl
+lock_outside (out ∷ outs) p roots kept below =
+    or_from (under out p) (is_in_any outs p) (lock_apart out p roots.0 kept.0 below) (lock_outside outs p roots.1 kept.1 below)
+
+-- what has changed at the outputs alone has left the lock as it was
+pub same_lock : (s : Stage) (m n : Moment) → IsReady s → IsKept is_record s → KeepsPaths (is_in_any (stage_outs s)) m n → IsSameUnder lock_path m n
+same_lock s m n ready kept h =
+    let roots = roots_apart (stage_outs s) (outs_apart s ready) in
+    record {
+      items = λ p u. h.items p (lock_outside (stage_outs s) p roots kept.outs u);
+      loose = λ p u. h.loose p (lock_outside (stage_outs s) p roots kept.outs u);
+    }
+
+same_dvc : (s : Stage) (m n : Moment) → IsReady s → IsKept is_record s → KeepsPaths (is_in_any (stage_outs s)) m n → IsSameAt dvc_path m n
+same_dvc s m n ready kept h =
+    let outside = dvc_apart (stage_outs s) (roots_apart (stage_outs s) (outs_apart s ready)) kept.outs in
+    record { item = h.items dvc_path outside; loose = h.loose dvc_path outside }
+
+root_above_lock : (t : Tree) → item_at t (parent lock_path) ≡ Some folder
+unfolding lock_path
+root_above_lock t = refl
+
+pub can_write : (s : Stage) (m n : Moment) → IsReady s → IsKept is_record s → InAnew s m n → CanWrite lock_path m.tree → CanWrite lock_path n.tree
+can_write s m n ready kept anew before =
+    let lock = (same_lock s m n ready kept anew.others).items lock_path (under-refl lock_path) in
+    let dvc = (same_dvc s m n ready kept anew.others).item in
+    record {
+      room = record { above = root_above_lock n.tree; no_folder = λ e. before.room.no_folder (sym lock ∙ e) };
+      no_file = λ bytes e. before.no_file bytes (sym dvc ∙ e);
+    }
+
+-- ---- moments until the lock is written
+
+turn_area : (s : Stage) (p : Path) → in_turns (s ∷ []) p ≡ false → (is_in_any (stage_outs s) p ≡ false) × (is_record p ≡ false)
+turn_area s p out =
+    let parts = or_parts (is_in_any (flat_map stage_outs (s ∷ [])) p) (is_record p) out in (
+      subst (λ (outs : List Path). is_in_any outs p ≡ false) (append-nil (stage_outs s)) parts.0,
+      parts.1,
+    )
+
+pub turns_of_anew : (effect : Effect) (s : Stage) (lock : Lock) (m end n : Moment) → IsReady s → IsKept is_record s → InAnew s m n → InTurns effect (s ∷ []) lock m end n
+turns_of_anew effect s lock m end n ready kept h =
+    record {
+      others = keeps_paths_in (is_in_any (stage_outs s)) (in_turns (s ∷ [])) m n (λ p out. (turn_area s p out).0) h.others;
+      dvc = inl (same_dvc s m n ready kept h.others);
+      same_effect = h.effect;
+      book = h.book;
+      ran = h.ran;
+      remembered = inl (same_lock s m n ready kept h.others);
+    }
+
+pub moments_of_anew : (s : Stage) (lock : Lock) (start now : History) → IsReady s → IsKept is_record s → Passes (InAnew s start.present) start now → IfSome start.present.aside.fixed.effect (λ effect. Passes (InTurns effect (s ∷ []) lock start.present now.present) start now)
+moments_of_anew s lock start now ready kept h =
+    if_some start.present.aside.fixed.effect (λ effect. Passes (InTurns effect (s ∷ []) lock start.present now.present) start now) (λ effect told. passes_weaker (InAnew s start.present) (InTurns effect (s ∷ []) lock start.present now.present) start now (λ n k. turns_of_anew effect s lock start.present now.present n ready kept k) h)
+
+pub stopped_early : (s : Stage) (lock : Lock) (m n : Moment) (r : Result (Unit {0}) Fault) → IsReady s → IsKept is_record s → InAnew s m n → IfErr r (λ fault. IfSome m.aside.fixed.effect (λ effect. IsLeftLock effect s lock fault m n))
+stopped_early s lock m n (Ok done) ready kept h = tt
+stopped_early s lock m n (Err fault) ready kept h =
+    if_some m.aside.fixed.effect (λ effect. IsLeftLock effect s lock fault m n) (λ effect told. inl (same_lock s m n ready kept h.others))
+
+-- ---- what stays of a tree at paths
+
+each_then : (t u v : Tree) (ps : List Path) → AllByRecursion (λ p. item_at u p ≡ item_at t p) ps → AllByRecursion (λ p. item_at v p ≡ item_at u p) ps → AllByRecursion (λ p. item_at v p ≡ item_at t p) ps
+each_then t u v ps a b =
+    each_both (λ p. item_at u p ≡ item_at t p) (λ p. item_at v p ≡ item_at u p) (λ p. item_at v p ≡ item_at t p) ps (λ p x y. y ∙ x) a b
+
+values_stay : (t u : Tree) (ps : List Path) → AllByRecursion (IsFileAt t) ps → AllByRecursion (λ p. item_at u p ≡ item_at t p) ps → AllByRecursion (λ p. value_at u p ≡ value_at t p) ps
+values_stay t u ps files same =
+    each_both (IsFileAt t) (λ p. item_at u p ≡ item_at t p) (λ p. value_at u p ≡ value_at t p) ps (λ p f e. value_same t u p f.0 f.1 e) files same
+
+same_values : (t u : Tree) (ps : List Path) → AllByRecursion (λ p. value_at u p ≡ value_at t p) ps → map (value_at u) ps ≡ map (value_at t) ps
+same_values t u [] same = refl
+same_values t u (p ∷ ps) same =
+    ap (λ (v : Value). v ∷ map (value_at u) ps) same.0 ∙ ap (λ (vs : List Value). value_at t p ∷ vs) (same_values t u ps same.1)
+
+-- ---- what a run has made
+
+-- a stage that may run: its paths are none of the tool's own, and its dependencies are files
+pub record MayRun (s : Stage) (t : Tree) : Type 0 where
+  pub ready : IsReady s
+  pub kept : IsKept is_record s
+  pub deps : dep_fault s.name t (dep_paths s) ≡ None
+
+-- a run that ended well, and the entry of the names of what it has read and made
+pub record HasMade (s : Stage) (e : Entry) (m k : Moment) : Type 0 where
+  pub anew : InAnew s m k
+  pub values : IfSome m.aside.fixed.effect (λ effect. effect (invocation_of (job_of s) m.tree) ≡ gives (map (value_at k.tree) (stage_outs s)))
+  pub files : AllByRecursion (IsFileAt k.tree) (stage_outs s)
+  pub ran : k.aside.fixed.ran ≡ m.aside.fixed.ran ++ job_of s ∷ []
+  pub commands : e.commands ≡ s.commands
+  pub deps : named_paths m.tree s.dir (in_order s.deps) ≡ Some e.deps
+  pub outs : named_paths k.tree s.dir (in_order s.outs) ≡ Some e.outs
+  pub deps_sized : AreSized e.deps
+  pub outs_sized : AreSized e.outs
+
+-- the write of the lock leaves the stage's paths alone
+deps_stay : (s : Stage) (e : Entry) (m k n : Moment) (bytes : List ℕ) → MayRun s m.tree → HasMade s e m k → InWrite lock_path bytes k n → AllByRecursion (λ p. item_at n.tree p ≡ item_at m.tree p) (dep_paths s)
+deps_stay s e m k n bytes may made write =
+    each_then m.tree k.tree n.tree (dep_paths s)
+    (each_from (λ p. is_in_any (stage_outs s) p ≡ false) (λ p. item_at k.tree p ≡ item_at m.tree p) (dep_paths s) (λ p out. made.anew.others.items p out) (deps_outside (stage_outs s) (dep_paths s) may.ready.apart))
+    (each_from (λ p. is_record p ≡ false) (λ p. item_at n.tree p ≡ item_at k.tree p) (dep_paths s) (λ p own. write.others.paths.items p own) may.kept.deps)
+
+outs_stay : (s : Stage) (e : Entry) (m k n : Moment) (bytes : List ℕ) → MayRun s m.tree → HasMade s e m k → InWrite lock_path bytes k n → AllByRecursion (λ p. value_at n.tree p ≡ value_at k.tree p) (stage_outs s)
+outs_stay s e m k n bytes may made write =
+    values_stay k.tree n.tree (stage_outs s) made.files (each_from (λ p. is_record p ≡ false) (λ p. item_at n.tree p ≡ item_at k.tree p) (stage_outs s) (λ p own. write.others.paths.items p own) may.kept.outs)
+
+made_values : (effect : Effect) (s : Stage) (e : Entry) (m k n : Moment) (bytes : List ℕ) → m.aside.fixed.effect ≡ Some effect → MayRun s m.tree → HasMade s e m k → InWrite lock_path bytes k n → effect (invocation_of (job_of s) m.tree) ≡ gives (map (value_at n.tree) (stage_outs s))
+made_values effect s e m k n bytes told may made write =
+    let at_end : effect (invocation_of (job_of s) m.tree) ≡ gives (map (value_at k.tree) (stage_outs s)) =
+    if_some_at m.aside.fixed.effect (λ x. x (invocation_of (job_of s) m.tree) ≡ gives (map (value_at k.tree) (stage_outs s))) effect told made.values in
+    at_end ∙ ap gives (sym (same_values k.tree n.tree (stage_outs s) (outs_stay s e m k n bytes may made write)))
+
+still_present : (s : Stage) (e : Entry) (m k n : Moment) (bytes : List ℕ) → MayRun s m.tree → HasMade s e m k → InWrite lock_path bytes k n → IsPresent e s n.tree
+still_present s e m k n bytes may made write =
+    let files = files_of_deps s.name m.tree (dep_paths s) may.deps in
+    let dep_values = values_stay m.tree n.tree (dep_paths s) files (deps_stay s e m k n bytes may made write) in
+    let deps = same_names m.tree n.tree s.dir (in_order s.deps) (all_in_order (path_from s.dir) (λ p. value_at n.tree p ≡ value_at m.tree p) s.deps dep_values) in
+    let outs = same_names k.tree n.tree s.dir (in_order s.outs) (all_in_order (path_from s.dir) (λ p. value_at n.tree p ≡ value_at k.tree p) s.outs (outs_stay s e m k n bytes may made write)) in
+    subst (λ (commands : List (List ℕ)). IsPresent (record { commands = commands; deps = e.deps; outs = e.outs }) s n.tree) (sym made.commands) (present_all s n.tree e.deps e.outs (deps ∙ made.deps) (outs ∙ made.outs))
+
+pub entry_of_run : (effect : Effect) (s : Stage) (e : Entry) (m k n : Moment) (bytes : List ℕ) → m.aside.fixed.effect ≡ Some effect → MayRun s m.tree → HasMade s e m k → InWrite lock_path bytes k n → IsEntryOf effect (s ∷ []) m n (s, e)
+entry_of_run effect s e m k n bytes told may made write =
+    let files = files_of_deps s.name m.tree (dep_paths s) may.deps in
+    let given : invocation_of (job_of s) n.tree ≡ invocation_of (job_of s) m.tree =
+    same_given s m.tree n.tree may.ready files (deps_stay s e m k n bytes may made write) in
+    record {
+      among = record { before = []; after = []; cut = refl };
+      ran = record {
+        before = [];
+        after = [];
+        ran = ap (λ (f : Fixed). f.ran) write.others.aside.fixed ∙ made.ran ∙ ap (λ (jobs : List Job). jobs ++ job_of s ∷ []) (sym (append-nil m.aside.fixed.ran));
+      };
+      made = ap effect given ∙ made_values effect s e m k n bytes told may made write;
+      present = still_present s e m k n bytes may made write;
+      deps_sized = made.deps_sized;
+      outs_sized = made.outs_sized;
+    }
+
+-- ---- the lock is written
+
+runs_of : (effect : Effect) (s : Stage) (e : Entry) (lock after : Lock) (m k n : Moment) (bytes : List ℕ) → m.aside.fixed.effect ≡ Some effect → MayRun s m.tree → HasMade s e m k → InWrite lock_path bytes k n → IsTree n.tree → after ≡ set lock s.name e → Runs is_record effect s (standing m.tree lock) (standing n.tree after)
+runs_of effect s e lock after m k n bytes told may made write stands remembered =
+    record {
+      entry = e;
+      values = made_values effect s e m k n bytes told may made write;
+      present = still_present s e m k n bytes may made write;
+      lock = remembered;
+      others = λ p out own. write.others.paths.items p own ∙ made.anew.others.items p out;
+      stands = stands;
+    }
+
+pub runs_of_record : (s : Stage) (e : Entry) (lock after : Lock) (m k n : Moment) (bytes : List ℕ) (r : Result (Unit {0}) Fault) → MayRun s m.tree → HasMade s e m k → InWrite lock_path bytes k n → IsTree n.tree → OnOk r (after ≡ set lock s.name e) → OnOk r (IfSome m.aside.fixed.effect (λ effect. Runs is_record effect s (standing m.tree lock) (standing n.tree after)))
+runs_of_record s e lock after m k n bytes (Err fault) may made write stands remembered = tt
+runs_of_record s e lock after m k n bytes (Ok done) may made write stands remembered =
+    if_some m.aside.fixed.effect (λ effect. Runs is_record effect s (standing m.tree lock) (standing n.tree after)) (λ effect told. runs_of effect s e lock after m k n bytes told may made write stands remembered)
+
+have_run_then : (s : Stage) (m k n : Moment) → HaveRun (s ∷ []) m k → n.aside.fixed ≡ k.aside.fixed → HaveRun (s ∷ []) m n
+have_run_then s m k n h same = record { jobs = h.jobs; ran = ap (λ (f : Fixed). f.ran) same ∙ h.ran; some = h.some }
+
+recorded : (effect : Effect) (s : Stage) (e : Entry) (lock : Lock) (m k end n : Moment) → IsSameUnder lock_path m k → IsEntryOf effect (s ∷ []) m end (s, e) → IsSameUnder lock_path k n ⊎ IsNewFile lock_path (lock_text (set lock s.name e)) n → IsSameUnder lock_path m n ⊎ IsRecorded effect (s ∷ []) lock m end n
+recorded effect s e lock m k end n before entry (inl same) = inl (same_under_then lock_path m k n before same)
+recorded effect s e lock m k end n before entry (inr new) =
+    inr (record { entries = (s, e) ∷ []; some = λ none. absurd (cc); made = (entry, tt); stands = new })
+
+turns_of_write : (effect : Effect) (s : Stage) (e : Entry) (lock : Lock) (m k end n : Moment) → MayRun s m.tree → HasMade s e m k → IsEntryOf effect (s ∷ []) m end (s, e) → InWrite lock_path (lock_text (set lock s.name e)) k n → InTurns effect (s ∷ []) lock m end n
+turns_of_write effect s e lock m k end n may made entry write =
+    let anew = made.anew in
+    let area = in_turns (s ∷ []) in
+    record {
+      others = keeps_paths_then area m k n (keeps_paths_in (is_in_any (stage_outs s)) area m k (λ p out. (turn_area s p out).0) anew.others) (keeps_paths_in is_record area k n (λ p out. (turn_area s p out).1) write.others.paths);
+      dvc = made_then_made dvc_path m k n (inl (same_dvc s m k may.ready may.kept anew.others)) write.dvc;
+      same_effect = ap (λ (f : Fixed). f.effect) write.others.aside.fixed ∙ anew.effect;
+      book = grows_then m.aside.book k.aside.book n.aside.book anew.book write.others.aside.book;
+      ran = have_run_then s m k n anew.ran write.others.aside.fixed;
+      remembered = recorded effect s e lock m k end n (same_lock s m k may.ready may.kept anew.others) entry write.path;
+    }
+
+pub moments_of_record : (s : Stage) (e : Entry) (lock : Lock) (start ran end : History) → MayRun s start.present.tree → HasMade s e start.present ran.present → Passes (InAnew s start.present) start ran → Passes (InWrite lock_path (lock_text (set lock s.name e)) ran.present) ran end → IfSome start.present.aside.fixed.effect (λ effect. Passes (InTurns effect (s ∷ []) lock start.present end.present) start end)
+moments_of_record s e lock start ran end may made anew write =
+    let m = start.present in
+    let written = InWrite lock_path (lock_text (set lock s.name e)) ran.present in
+    if_some m.aside.fixed.effect (λ effect. Passes (InTurns effect (s ∷ []) lock m end.present) start end) (λ effect told.
+    let turns = InTurns effect (s ∷ []) lock m end.present in
+    let entry = entry_of_run effect s e m ran.present end.present (lock_text (set lock s.name e)) told may made write.now in
+    passes_on turns written start ran end (passes_weaker (InAnew s m) turns start ran (λ n k. turns_of_anew effect s lock m end.present n may.ready may.kept k) anew) (λ n w. turns_of_write effect s e lock m ran.present end.present n may made entry w) write)
+
+-- ---- the lock that is left where its write has failed
+
+left_by : (effect : Effect) (s : Stage) (e : Entry) (lock : Lock) (m k n : Moment) → IsSameUnder lock_path m k → IsEntryOf effect (s ∷ []) m n (s, e) → IsSameUnder lock_path k n ⊎ IsNewFile lock_path (lock_text (set lock s.name e)) n → IsLeftLock effect s lock WorldFault m n
+left_by effect s e lock m k n before entry (inl same) = inl (same_under_then lock_path m k n before same)
+left_by effect s e lock m k n before entry (inr new) = inr (refl, e, entry, new)
+
+left_after : (effect : Effect) (s : Stage) (e : Entry) (lock : Lock) (m k n : Moment) (fault : Fault) → m.aside.fixed.effect ≡ Some effect → MayRun s m.tree → HasMade s e m k → InWrite lock_path (lock_text (set lock s.name e)) k n → IsRecordFault fault → (fault ≡ NoMemory → n ≡ k) → IsLeftLock effect s lock fault m n
+left_after effect s e lock m k n NoMemory told may made write kind same =
+    inl (subst (IsSameUnder lock_path m) (sym (same refl)) (same_lock s m k may.ready may.kept made.anew.others))
+left_after effect s e lock m k n WorldFault told may made write kind same =
+    left_by effect s e lock m k n (same_lock s m k may.ready may.kept made.anew.others) (entry_of_run effect s e m k n (lock_text (set lock s.name e)) told may made write) write.path
+left_after effect s e lock m k n _ told may made write kind same = absurd kind
+
+pub left_of_record : (s : Stage) (e : Entry) (lock : Lock) (m k n : Moment) (r : Result (Unit {0}) Fault) → MayRun s m.tree → HasMade s e m k → InWrite lock_path (lock_text (set lock s.name e)) k n → IfErr r IsRecordFault → (r ≡ Err NoMemory → n ≡ k) → IfErr r (λ fault. IfSome m.aside.fixed.effect (λ effect. IsLeftLock effect s lock fault m n))
+left_of_record s e lock m k n (Ok done) may made write kind same = tt
+left_of_record s e lock m k n (Err fault) may made write kind same =
+    if_some m.aside.fixed.effect (λ effect. IsLeftLock effect s lock fault m n) (λ effect told. left_after effect s e lock m k n fault told may made write kind (λ none. same (cc)))
+
+-- ---- what the next turn finds
+
+file_no_folder : (bytes : List ℕ) → Some (file bytes) ≡ Some folder → ⊥
+file_no_folder bytes e = cc
+
+folder_no_file : (bytes : List ℕ) → Some folder ≡ Some (file bytes) → ⊥
+folder_no_file bytes e = cc
+
+no_folder_then : (bytes : List ℕ) (k n : Moment) → IsSameUnder lock_path k n ⊎ IsNewFile lock_path bytes n → item_at k.tree lock_path ≢ Some folder → item_at n.tree lock_path ≢ Some folder
+no_folder_then bytes k n (inl same) none e = none (sym (same.items lock_path (under-refl lock_path)) ∙ e)
+no_folder_then bytes k n (inr new) none e = file_no_folder bytes (sym new.stands ∙ e)
+
+no_file_then : (k n : Moment) → IsMade dvc_path k n → IsNoFileAt k.tree dvc_path → IsNoFileAt n.tree dvc_path
+no_file_then k n (inl same) none bytes e = none bytes (sym same.item ∙ e)
+no_file_then k n (inr made) none bytes e = folder_no_file bytes (sym made.1.stands ∙ e)
+
+can_write_again : (bytes : List ℕ) (k n : Moment) → InWrite lock_path bytes k n → CanWrite lock_path k.tree → CanWrite lock_path n.tree
+can_write_again bytes k n write before = record {
+  room = record { above = root_above_lock n.tree; no_folder = no_folder_then bytes k n write.path before.room.no_folder };
+  no_file = no_file_then k n write.dvc before.no_file;
+}
+
+-- the lock has the stage's present entry, and may be written again
+pub next_of_record : (s : Stage) (e : Entry) (lock after : Lock) (m k n : Moment) (bytes : List ℕ) (r : Result (Unit {0}) Fault) → MayRun s m.tree → HasMade s e m k → InWrite lock_path bytes k n → CanWrite lock_path m.tree → OnOk r (after ≡ set lock s.name e) → OnOk r (IsNext s Run lock after n.tree)
+next_of_record s e lock after m k n bytes (Err fault) may made write place remembered = tt
+next_of_record s e lock after m k n bytes (Ok done) may made write place remembered = record {
+  after = (e, remembered, still_present s e m k n bytes may made write, made.deps_sized, made.outs_sized);
+  place = can_write_again bytes k n write (can_write s m k may.ready may.kept made.anew place);
+}

@@ -1,0 +1,49 @@
+-- One more path has its name, or has none.
+use Rattle.std.proofs.Common.{◌≡◌, ◌<◌, ◌∙◌, ◌++◌, ◌∷◌, ◌^◌, [], List, get_or, length, Some, sym, ap, subst, rules}
+use Rattle.world_api.specs.Tree.{value_at}
+use Rattle.file_hash.specs.Naming.{named_of}
+use Rattle.lock_files.specs.declared.entry.PathEntry.{PathEntry}
+use Rattle.repro_core.specs.Moments.{AreSized}
+use Rattle.world_api.specs.History.{History}
+use Rattle.repro_core.specs.Entries.{named_path}
+use Rattle.repro_core.proofs.NamesLemmas.{named_more, named_stops, sized_more}
+use Rattle.repro_core.proofs.names.name_paths.Goals as goal
+
+pub returns-in-None-clause-found : goal.returns-in-None-clause-found
+returns-in-None-clause-found g c told =
+    let texts = c.args.texts.now in
+    let dir = c.args.dir.now in
+    let i = c.loop-at.at in
+    let text = c.index-texts-at.result in
+    let tree = (g.F.Ground.history c.args.files.now).present.tree in
+    let within : i < length texts = search rules in
+    let here : text ≡ get_or texts i text = search rules in
+    let there : c.index-paths-at.result ≡ get_or c.args.paths.now i c.index-paths-at.result = search rules in
+    let found = sym c.in-None.is ∙ c.in_ok-entry.ensures.named told in
+    let at_start = ap (λ (h : History). named_path text (named_of (value_at h.present.tree c.index-paths-at.result))) (c.loop-at.invariant.same told) in
+    named_stops tree dir texts c.args.paths.now i text c.index-paths-at.result c.requires.named_by within here there (found ∙ at_start)
+
+pub loop-at-preserved : goal.loop-at-preserved
+loop-at-preserved g c =
+    let texts = c.args.texts.now in
+    let dir = c.args.dir.now in
+    let i = c.loop-at.at in
+    let text = c.index-texts-at.result in
+    let entry = c.in-Some.entry in
+    let entries = c.loop-at.entries in
+    let tree = (g.F.Ground.history c.args.files.now).present.tree in
+    let within : i < length texts = search rules in
+    let here : text ≡ get_or texts i text = search rules in
+    let there : c.index-paths-at.result ≡ get_or c.args.paths.now i c.index-paths-at.result = search rules in
+    let pushed : c.push.new.self ≡ entries ++ entry ∷ [] = c.in_ok-push-in-Some.ensures.ok in
+    let size : entry.size < 2 ^ 64 = search rules in
+    record {
+      same = λ told. c.name_path.ensures.unchanged told ∙ c.loop-at.invariant.same told;
+      named = λ told.
+          let found = sym c.in-Some.is ∙ c.in_ok-entry.ensures.named told in
+          let at_start = ap (λ (h : History). named_path text (named_of (value_at h.present.tree c.index-paths-at.result))) (c.loop-at.invariant.same told) in
+          named_more tree dir texts c.args.paths.now i text c.index-paths-at.result entries entry c.requires.named_by within here there (c.loop-at.invariant.named told) (found ∙ at_start)
+          ∙ ap (λ (es : List PathEntry). Some es) (sym pushed);
+      sized = subst AreSized (sym pushed) (sized_more entries entry c.loop-at.invariant.sized size);
+      counted = search rules;
+    }

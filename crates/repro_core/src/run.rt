@@ -1,0 +1,108 @@
+// The run of a stage, up to the lock with its entry.
+ghost use Rattle.std.specs.Prelude.{◌≡◌, [], ◌∷◌, IsTrue, IfSome, IfOk, IfErr, OnOk, IsErrOf, Some, None};
+ghost use Rattle.std.specs.List.{AllByRecursion};
+ghost use Rattle.dvc_base.specs.declared.fault.Fault.TheVariants.{WorldFault};
+ghost use Rattle.world_api.specs.Effect.{invocation_of};
+ghost use Rattle.world_api.specs.History.{Passes};
+ghost use Rattle.world_api.specs.Calls.{IsFileAt, HasFolders};
+ghost use Rattle.world_api.specs.Writes.{IsNewFile, CanWrite};
+ghost use Rattle.lock_files.specs.Lock.{lock_text};
+ghost use Rattle.repro_core.specs.Stage.{job_of, dep_paths, stage_outs, IsReady};
+ghost use Rattle.repro_core.specs.Entries.{named_paths};
+ghost use Rattle.repro_core.specs.Due.{dep_fault, outcome_fault};
+ghost use Rattle.repro_core.specs.Answer.{fault_in, IsAnswer, Gains, IsCounted};
+ghost use Rattle.repro_core.specs.Turns.{standing, Runs};
+ghost use Rattle.repro_core.specs.Headline.{IsKept};
+ghost use Rattle.repro_core.specs.Moments.{lock_path, is_record, AreSized, InTurns, IsNext, IsLeftLock};
+ghost use Rattle.repro_core.specs.declared.stage.Choice.TheVariants.{Run};
+ghost use Rattle.repro_core.specs.Steps.{IsPlan, IsRunFault, IsGoneFault};
+
+use crate::Stage;
+use crate::names::{Found, name_paths};
+use crate::outcome::run_anew;
+use crate::plan::Plan;
+use crate::record::record;
+use dvc_base::{Fault, Plain};
+use lock_files::{Entry, LockBook, PathEntries};
+use std::alloc::Global;
+use world_api::World;
+
+/// Runs the stage, names what it has made, and remembers it with the names of the dependencies.
+pub(crate) fn run_and_record<W: World>(
+    alloc: Global,
+    world: &mut W,
+    lock: &mut LockBook,
+    stage: &Stage,
+    plan: &Plan,
+    deps: PathEntries,
+) -> Result<(), Fault>
+    requires ready { IsReady stage.now }
+    requires kept { IsKept is_record stage.now }
+    requires plan { IsPlan stage.now plan.now }
+    requires folders { IsTrue W.tells → HasFolders (job_of stage.now) (W.history world.old).present.tree }
+    requires place { IsTrue W.tells → CanWrite lock_path (W.history world.old).present.tree }
+    requires files { IsTrue W.tells →
+        dep_fault stage.now.name (W.history world.old).present.tree (dep_paths stage.now) ≡ None }
+    requires named { IsTrue W.tells →
+        named_paths (W.history world.old).present.tree stage.now.dir (job_of stage.now).deps ≡ Some deps }
+    requires sized { AreSized deps }
+    ensures answer { IsTrue W.tells → IfSome (W.history world.old).present.aside.fixed.effect (λ effect.
+        IsAnswer (fault_in result)
+        (outcome_fault stage.now (effect (invocation_of (job_of stage.now) (W.history world.old).present.tree)))) }
+    ensures runs { IsTrue W.tells → OnOk result (IfSome (W.history world.old).present.aside.fixed.effect (λ effect.
+        Runs is_record effect stage.now
+        (standing (W.history world.old).present.tree lock.old) (standing (W.history world.new).present.tree lock.new))) }
+    ensures published { IsTrue W.tells → OnOk result
+        (IsNewFile lock_path (lock_text lock.new) (W.history world.new).present) }
+    ensures next { IsTrue W.tells → OnOk result
+        (IsNext stage.now Run lock.old lock.new (W.history world.new).present.tree) }
+    ensures stopped { IsTrue W.tells → IfErr result (λ fault.
+        IfSome (W.history world.old).present.aside.fixed.effect (λ effect.
+        IsLeftLock effect stage.now lock.old fault (W.history world.old).present (W.history world.new).present)) }
+    ensures ran { IsTrue W.tells → Gains (fault_in result) (W.history world.old).present.aside.fixed.ran
+        (job_of stage.now ∷ []) (W.history world.new).present.aside.fixed.ran }
+    ensures moments { IsTrue W.tells → IfSome (W.history world.old).present.aside.fixed.effect (λ effect.
+        Passes (InTurns effect (stage.now ∷ []) lock.old (W.history world.old).present (W.history world.new).present)
+        (W.history world.old) (W.history world.new)) }
+    ensures cause { IsCounted (W.faults world.old) (W.faults world.new) (IsErrOf result WorldFault) }
+    ensures kinds { IsRunFault W.tells (fault_in result) }
+{
+    run_anew(alloc, world, stage, plan)?;
+    let outs = name_outs(alloc, world, stage, plan)?;
+    let commands = stage.commands.copy(alloc)?;
+    let entry = Entry {
+        commands,
+        deps,
+        outs,
+    };
+    record(alloc, world, lock, &plan.lock, &stage.name, entry)
+}
+
+// The names of outputs that are files.
+fn name_outs<W: World>(
+    alloc: Global,
+    world: &mut W,
+    stage: &Stage,
+    plan: &Plan,
+) -> Result<PathEntries, Fault>
+    requires ready { IsReady stage.now }
+    requires plan { IsPlan stage.now plan.now }
+    requires files { IsTrue W.tells →
+        AllByRecursion (IsFileAt (W.history world.old).present.tree) (stage_outs stage.now) }
+    ensures named { IsTrue W.tells → IfOk result (λ outs.
+        named_paths (W.history world.old).present.tree stage.now.dir (job_of stage.now).outs ≡ Some outs) }
+    ensures sized { IfOk result AreSized }
+    ensures unchanged { IsTrue W.tells → W.history world.new ≡ W.history world.old }
+    ensures refused { IfErr result (IsGoneFault W.tells) }
+    ensures kinds { IsRunFault W.tells (fault_in result) }
+    ensures cause { IsCounted (W.faults world.old) (W.faults world.new) (IsErrOf result WorldFault) }
+{
+    let paths = plan.outs.as_slice();
+    match name_paths(alloc, world, &stage.dir, plan.job.outs.as_slice(), paths)? {
+        Found::Names(outs) => Ok(outs),
+        Found::Gap(at) => Err(Fault::MissingOutput {
+            stage: stage.name.copy(alloc)?,
+            path: paths[at].copy(alloc)?,
+        }),
+    }
+}

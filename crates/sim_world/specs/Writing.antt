@@ -1,0 +1,45 @@
+-- The histories that the writing calls make in a world in memory.
+--     begun lane h, appended lane bytes h, firm lane h, moved lane at h     after each call
+use Rattle.std.specs.Prelude.{◌≡◌, ◌⊎◌, ℕ, List, [], ◌++◌, Option, Some, None, if◌then◌else◌}
+use Rattle.dvc_base.specs.Path.{Path}
+use Rattle.world_api.specs.Tree.{Tree, Item, folder, file, item_at}
+use Rattle.world_api.specs.History.{History}
+use Rattle.world_api.specs.Writes.{dvc_path, tmp_path, lane_path}
+use Rattle.sim_world.specs.Change.{grown, made, written, made_firm, published}
+use Rattle.sim_world.specs.Edits.{is_folder}
+use Rattle.sim_world.specs.declared.value.Value.TheVariants.{File}
+
+-- the bytes of a file; none where another thing stands
+abbrev pub held : Option Item → List ℕ
+held None = []
+held (Some folder) = []
+held (Some (file bytes)) = bytes
+
+abbrev pub lane_bytes : ℕ → Tree → List ℕ
+lane_bytes lane t = held (item_at t (lane_path lane))
+
+-- a folder that stands already is left alone
+abbrev pub made_once : Path → History → History
+made_once at h = if is_folder (item_at h.present.tree at) then h else grown (made at) h
+
+abbrev pub with_tmp : History → History
+with_tmp h = made_once tmp_path (made_once dvc_path h)
+
+abbrev pub begun : ℕ → History → History
+begun lane h = grown (written (lane_path lane) (File [])) (with_tmp h)
+
+-- some of the changes of a begin
+abbrev pub IsMakingTmp : History → History → Type 0
+IsMakingTmp h new = (new ≡ h) ⊎ (new ≡ made_once dvc_path h)
+
+abbrev pub IsBeginning : History → History → Type 0
+IsBeginning h new = IsMakingTmp h new ⊎ (new ≡ with_tmp h)
+
+abbrev pub appended : ℕ → List ℕ → History → History
+appended lane bytes h = grown (written (lane_path lane) (File (lane_bytes lane h.present.tree ++ bytes))) h
+
+abbrev pub firm : ℕ → History → History
+firm lane h = grown (made_firm (lane_path lane)) h
+
+abbrev pub moved : ℕ → Path → History → History
+moved lane at h = grown (published (lane_path lane) at (File (lane_bytes lane h.present.tree))) h

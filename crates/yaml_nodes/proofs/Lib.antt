@@ -1,0 +1,11 @@
+pub mod StepLemmas
+pub mod FlowLemmas
+pub mod BlockLemmas
+pub mod DocumentLemmas
+pub mod KeyLemmas
+pub mod WithinLemmas
+pub mod FlowSoundness
+pub mod BlockSoundness
+pub mod FlowTotal
+pub mod BlockTotal
+pub mod GrammarLaw

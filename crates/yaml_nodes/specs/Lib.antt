@@ -1,0 +1,7 @@
+pub mod Part
+pub mod Keyed
+pub mod Flow
+pub mod Block
+pub mod Document
+pub mod Grammar
+pub mod DocumentGrammar

@@ -1,0 +1,136 @@
+// The document, and the whole text.
+ghost use Rattle.std.specs.Prelude.{◌≡◌, ◌<◌, ◌≤◌, ◌+◌, ◌^◌, ◌==◌, Ok, Err, length, count_by, IfOk};
+ghost use Rattle.yaml_text.specs.Outcome.{Reads};
+ghost use Rattle.yaml_nodes.specs.Document as spec;
+ghost use Rattle.yaml_nodes.specs.DocumentGrammar.{IsParsed};
+
+use crate::block::block;
+use dvc_base::{Node, YamlFault};
+use std::alloc::Global;
+use yaml_text::{
+    Refusal, Stop, behind, body_len, first_line, is_marker, line_of, next_line, past_spaces,
+    rest_of_line, source, spaces, syntax,
+};
+
+/// How many collections may stand in one another.
+const MAX_DEPTH: usize = 64;
+
+fn root(alloc: Global, text: &[u8]) -> Result<Node, Stop>
+    requires { length text.now < 2 ^ 63 }
+    ensures exact { Reads (λ node. node) result (spec.root text.now) }
+{
+    if text.len() == 0 {
+        return Ok(Node::Null);
+    }
+    let (node, rest) = block(alloc, MAX_DEPTH, 0, spaces(text), past_spaces(text))?;
+    if rest.len() == 0 {
+        Ok(node)
+    } else {
+        Err(syntax(rest))
+    }
+}
+
+fn past_marker(text: &[u8]) -> Result<&[u8], Stop>
+    ensures exact { Reads (λ rest. rest.now) result (spec.past_marker text.now) }
+    ensures within { IfOk result (λ rest. length rest.now ≤ length text.now) }
+{
+    if is_marker(text) {
+        let below = rest_of_line(false, behind(text, 3))?;
+        next_line(below)
+    } else {
+        next_line(text)
+    }
+}
+
+/// The one node of a text, without its last `...`.
+#[tactic(auto, unfolding(crate::specs::Document::document))]
+fn document(alloc: Global, text: &[u8]) -> Result<Node, Stop>
+    requires { length text.now < 2 ^ 63 }
+    ensures exact { Reads (λ node. node) result (spec.document text.now) }
+{
+    let start = first_line(text)?;
+    let start = past_marker(start)?;
+    root(alloc, start)
+}
+
+/// The line `...` with its comment, and the comments behind it.
+#[tactic(auto, unfolding(crate::specs::Document::tail))]
+fn tail(text: &[u8]) -> Result<&[u8], Stop>
+    ensures exact { Reads (λ rest. rest.now) result (spec.tail text.now) }
+{
+    if text.len() == 0 {
+        return Ok(text);
+    }
+    let below = rest_of_line(false, behind(text, 3))?;
+    first_line(below)
+}
+
+fn place(text: &[u8], body: &[u8], left: usize) -> u32
+    requires few { count_by (λ b. b == 10) text.now + 1 < 2 ^ 32 }
+    requires fewer { count_by (λ b. b == 10) body.now + 1 < 2 ^ 32 }
+    ensures { result ≡ spec.place text.now body.now left }
+{
+    if left == 0 {
+        line_of(text, 0)
+    } else {
+        line_of(body, left)
+    }
+}
+
+fn located(text: &[u8], body: &[u8], why: Refusal) -> YamlFault
+    requires few { count_by (λ b. b == 10) text.now + 1 < 2 ^ 32 }
+    requires fewer { count_by (λ b. b == 10) body.now + 1 < 2 ^ 32 }
+    ensures { result ≡ spec.located (spec.place text.now body.now) why }
+{
+    match why {
+        Refusal::Syntax(left) => YamlFault::Syntax {
+            line: place(text, body, left),
+        },
+        Refusal::Duplicate(left) => YamlFault::Duplicate {
+            line: place(text, body, left),
+        },
+        Refusal::TooDeep(left) => YamlFault::TooDeep {
+            line: place(text, body, left),
+        },
+        Refusal::TooWide(left) => YamlFault::TooWide {
+            line: place(text, body, left),
+        },
+    }
+}
+
+fn with_tail(text: &[u8], node: Node, rest: &[u8]) -> Result<Node, YamlFault>
+    requires { count_by (λ b. b == 10) text.now + 1 < 2 ^ 32 }
+    ensures { spec.IsAnswer result (spec.with_tail text.now node (spec.tail rest.now)) }
+{
+    match tail(rest) {
+        Ok(_) => Ok(node),
+        Err(Stop::NoMemory) => Err(YamlFault::NoMemory),
+        Err(Stop::Refused(why)) => Err(located(text, text, why)),
+    }
+}
+
+#[tactic(auto, unfolding(crate::specs::Document::read), using(crate::proofs::DocumentLemmas::take_lines))]
+fn read(alloc: Global, text: &[u8]) -> Result<Node, YamlFault>
+    requires short { length text.now < 2 ^ 63 }
+    requires few { count_by (λ b. b == 10) text.now + 1 < 2 ^ 32 }
+    ensures { spec.IsAnswer result (spec.read text.now) }
+{
+    let (body, rest) = text.split_at(body_len(text));
+    match document(alloc, body) {
+        Ok(node) => with_tail(text, node, rest),
+        Err(Stop::NoMemory) => Err(YamlFault::NoMemory),
+        Err(Stop::Refused(why)) => Err(located(text, body, why)),
+    }
+}
+
+/// The node of a YAML text, or the first fault in it with its line.
+#[tactic(auto, unfolding(crate::specs::Document::parse), using(crate::proofs::DocumentLemmas::source_lines))]
+pub fn parse(alloc: Global, text: &[u8]) -> Result<Node, YamlFault>
+    requires { count_by (λ b. b == 10) text.now + 1 < 2 ^ 32 }
+    // What the grammar gives for these bytes, the fault and its line included.
+    ensures grammar { IsParsed text.now result }
+    ensures exact { spec.IsAnswer result (spec.parse text.now) }
+{
+    let lines = source(alloc, text)?;
+    read(alloc, lines.as_slice())
+}

@@ -1,0 +1,10 @@
+pub mod TurnLemmas
+pub mod PlainLemmas
+pub mod QuotedLemmas
+pub mod LinesLemmas
+pub mod NumberLemmas
+pub mod KindLemmas
+pub mod WithinLemmas
+pub mod QuotedRules
+pub mod PlainRules
+pub mod LinesRules

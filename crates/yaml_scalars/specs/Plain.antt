@@ -1,0 +1,99 @@
+-- Plain scalars (7.3.3). `flow` tells that the scalar stands in a flow form.
+--     begins_plain flow t        a plain scalar begins here
+--     plain_len flow false t     how long its part on this line is, without white space at its end
+--     goes_on flow least start   the scalar's part on the line at `start`, or nothing where the scalar ended before it;
+--                                in block style `least` is the least indentation of such a line
+--     plain flow least t         the scalar's text, its lines folded (6.5), and what is left behind it
+use Rattle.std.specs.Prelude.{ℕ, zero, suc, ◌+◌, Bool, true, false, not, ◌&&◌, ◌||◌, if◌then◌else◌, ◌==◌, nat_lt, List, [], ◌∷◌, ◌++◌, length, take, drop, slice_index, Option, Some, None, Ok}
+use Rattle.yaml_text.specs.Outcome.{Text, Outcome, Step, ◌>>=◌, syntax}
+use Rattle.yaml_text.specs.Line.{is_white, is_bad, spaces, past_spaces, past_white, is_marker, checked, blank_lines, breaks}
+use Rattle.yaml_scalars.specs.Turns.{Turn, all_turns}
+
+-- `,` `[` `]` `{` `}`
+abbrev pub is_flow_sign : ℕ → Bool
+is_flow_sign b = b == 44 || b == 91 || b == 93 || b == 123 || b == 125
+
+-- what may follow a `:` that parts a key from its value
+abbrev pub parts : Bool → Text → Bool
+parts flow [] = true
+parts flow (b ∷ t) = is_white b || b == 10 || (flow && is_flow_sign b)
+
+abbrev pub is_colon : Bool → Text → Bool
+is_colon flow [] = false
+is_colon flow (b ∷ t) = b == 58 && parts flow t
+
+-- `white` tells that white space stands before b
+abbrev pub stops_before : Bool → Bool → ℕ → Text → Bool
+stops_before flow white b t = b == 10 || is_bad b || (white && b == 35) || (b == 58 && parts flow t) || (flow && is_flow_sign b)
+
+-- one more, where there is any
+abbrev pub and_more : ℕ → ℕ
+and_more zero = zero
+and_more (suc n) = suc (suc n)
+
+abbrev pub plain_len : Bool → Bool → Text → ℕ
+plain_len flow white [] = 0
+plain_len flow white (b ∷ t) =
+    if stops_before flow white b t then 0
+    else if is_white b then and_more (plain_len flow true t)
+    else suc (plain_len flow false t)
+
+-- ` , [ ] { } # & * ! | > ' " % @ and the backquote
+abbrev pub is_reserved : ℕ → Bool
+is_reserved b =
+    is_flow_sign b || b == 35 || b == 38 || b == 42 || b == 33 || b == 124 || b == 62 || b == 39 || b == 34 || b == 37 || b == 64 || b == 96
+
+-- a space or the line's end
+abbrev pub is_gap : Text → Bool
+is_gap [] = true
+is_gap (b ∷ t) = b == 32 || b == 10
+
+abbrev pub begins_plain : Bool → Text → Bool
+begins_plain flow [] = false
+begins_plain flow (b ∷ t) =
+    not (is_reserved b || is_white b || ((b == 45 || b == 63 || b == 58) && is_gap t) || stops_before flow false b t)
+
+-- ---- the lines after the first
+
+-- at the end of the text, or at a comment
+abbrev pub is_over : Text → Bool
+is_over [] = true
+is_over (b ∷ t) = b == 35
+
+abbrev pub part_in_flow : Text → Text → Outcome (Option Text)
+part_in_flow start t = if is_marker start then syntax start else Ok (if plain_len true false t == 0 then None else Some t)
+
+-- A key in a line that goes on with the scalar is refused.
+abbrev pub part_of_block : Text → Outcome (Option Text)
+part_of_block t = if is_colon false (past_white (drop (plain_len false false t) t)) then syntax t else Ok (Some t)
+
+abbrev pub part_in_block : ℕ → Text → Outcome (Option Text)
+part_in_block least start = if nat_lt (spaces start) least then Ok None else (checked start >>= λ s. part_of_block (past_spaces s))
+
+unfoldable pub goes_on : Bool → ℕ → Text → Outcome (Option Text)
+goes_on flow least start =
+    if is_over (past_white start) then Ok None
+    else if flow then part_in_flow start (past_white start)
+    else part_in_block least start
+
+-- behind k blank lines
+abbrev pub with_part : Bool → Text → Text → ℕ → Option Text → Turn Text
+with_part flow found t k None = (true, (found, t))
+with_part flow found t k (Some u) = (false, (found ++ breaks k ++ take (plain_len flow false u) u, drop (plain_len flow false u) u))
+
+abbrev pub next_part : Bool → ℕ → Text → Text → ℕ × Text → Outcome (Turn Text)
+next_part flow least found t lines = goes_on flow least lines.1 >>= λ part. Ok (with_part flow found t lines.0 part)
+
+-- what follows the part on a line: t is left behind the part, and the last argument behind the white space after it
+abbrev pub behind_part : Bool → ℕ → Text → Text → Text → Outcome (Turn Text)
+behind_part flow least found t [] = Ok (true, (found, t))
+behind_part flow least found t (b ∷ u) =
+    if b == 10 then next_part flow least found t (blank_lines u)
+    else if is_bad b then syntax (b ∷ u)
+    else Ok (true, (found, t))
+
+unfoldable pub plain_turn : Bool → ℕ → Text → Text → Outcome (Turn Text)
+plain_turn flow least found t = behind_part flow least found t (past_white t)
+
+unfoldable pub plain : Bool → ℕ → Text → Step Text
+plain flow least t = all_turns (plain_turn flow least) (take (plain_len flow false t) t) (drop (plain_len flow false t) t)

@@ -1,0 +1,4 @@
+pub mod Outcome
+pub mod Line
+pub mod Source
+pub mod Rules
