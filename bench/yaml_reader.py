@@ -1,7 +1,7 @@
 #!/usr/bin/env python3
-"""Times the reader of YAML, by the program `yaml_dump`, and tells its memory.
+"""Times the reader and the printer of YAML, by the program `yaml_dump`, and tells its memory.
 
-`yaml_dump` reads a text and prints its nodes; it has to be built (`rt ci` leaves it at crates/yaml_dump/out/yaml_dump). A lock
+`yaml_dump` reads a text and prints it again; it has to be built (`rt ci` leaves it at crates/yaml_dump/out/yaml_dump). A lock
 of many stages is read beside PyYAML's C loader, in the same run; hostile texts are read at a quarter and at their whole
 length, so that the times tell whether they grow with the length alone.
 """

@@ -1,6 +1,8 @@
 #!/usr/bin/env python3
 """Compares the reader of YAML with PyYAML on random documents of the part that both read: their structure and their texts.
 
+What is read here is printed again, and PyYAML reads both texts.
+
 The program `yaml_dump` has to be built (`rt ci` leaves it at crates/yaml_dump/out/yaml_dump). Where PyYAML isn't
 installed, nothing is compared. Each document comes from a seed, and the first that differs is printed.
 """
@@ -165,55 +167,35 @@ class Writer:
         return self.some(["|", ">"]) + self.some(["", "-", "+"]) + self.comment() + "\n" + text
 
 
-def read_node(lines):
-    kind, _, rest = next(lines).partition(" ")
-    if kind == "items":
-        return [read_node(lines) for _ in range(int(rest))]
-    if kind == "pairs":
-        return [(bytes.fromhex(next(lines)[5:]).decode(), read_node(lines)) for _ in range(int(rest))]
-    if kind == "text":
-        return ("text", bytes.fromhex(rest).decode())
-    return (kind, rest)
+NULLS = ("", "~", "null", "Null", "NULL")
+BOOLS = ("true", "True", "TRUE", "false", "False", "FALSE")
 
 
-# Whether the node is the one that PyYAML made without kinds: mappings, lists and texts as written.
-def agrees(node, other):
-    if isinstance(other, dict):
-        return isinstance(node, list) and [p[0] for p in node] == list(other) and all(agrees(v, other[k]) for k, v in node)
-    if isinstance(other, list):
-        return isinstance(node, list) and len(node) == len(other) and all(agrees(a, b) for a, b in zip(node, other))
-    if other is None or not isinstance(node, tuple):
-        return other is None and node == ("null", "")
-    kind, text = node
-    if kind == "null":
-        return other in ("", "~", "null", "Null", "NULL")
-    if kind in ("true", "false"):
-        return other.lower() == kind
-    return other == text
+# Whether two documents, which PyYAML made without kinds, are one: mappings in order, lists, and texts. Nulls and booleans are
+# printed in one way.
+def agree(one, other):
+    if isinstance(one, dict) and isinstance(other, dict):
+        return list(one) == list(other) and all(agree(one[key], other[key]) for key in one)
+    if isinstance(one, list) and isinstance(other, list):
+        return len(one) == len(other) and all(agree(a, b) for a, b in zip(one, other))
+    if isinstance(one, (dict, list)) or isinstance(other, (dict, list)):
+        return False
+    one, other = one or "", other or ""
+    if one in BOOLS and other in BOOLS:
+        return one.lower() == other.lower()
+    return one == other or (one in NULLS and other in NULLS)
 
 
-def compare(yaml, seeds):
-    texts = [Writer(seed).document() for seed in seeds]
-    with tempfile.TemporaryDirectory() as folder:
-        names = [f"{seed}.yaml" for seed in seeds]
-        for name, text in zip(names, texts):
-            with open(os.path.join(folder, name), "w", encoding="utf-8", newline="") as file:
-                file.write(text)
-        done = subprocess.run([DUMP] + names, cwd=folder, capture_output=True, check=True)
-    blocks = ("\n" + done.stdout.decode()).split("\nfile ")[1:]
-    read = 0
-    for text, block in zip(texts, blocks):
-        lines = block.rstrip("\n").split("\n")[1:]
-        try:
-            other = yaml.load(text, Loader=getattr(yaml, "CBaseLoader", yaml.BaseLoader))
-        except yaml.YAMLError as error:
-            other = error
-        refused = lines[0].startswith(("syntax", "duplicate", "too"))
-        if isinstance(other, Exception) != refused or (not refused and not agrees(read_node(iter(lines)), other)):
-            print(f"--- text\n{text}\n--- here\n" + "\n".join(lines) + f"\n--- PyYAML\n{other!r}")
-            raise SystemExit(1)
-        read += not refused
-    return read
+def compare(yaml, loader, folder, seed):
+    text = Writer(seed).document()
+    with open(os.path.join(folder, "text.yaml"), "w", encoding="utf-8", newline="") as file:
+        file.write(text)
+    done = subprocess.run([DUMP, "text.yaml"], cwd=folder, capture_output=True, check=False)
+    printed = done.stdout.decode()
+    if done.returncode == 0 and agree(yaml.load(printed, Loader=loader), yaml.load(text, Loader=loader)):
+        return
+    print(f"--- document {seed}\n{text}\n--- here, status {done.returncode}\n{printed}")
+    raise SystemExit(1)
 
 
 def main():
@@ -225,8 +207,11 @@ def main():
     if not os.access(DUMP, os.X_OK):
         raise SystemExit("yaml_dump isn't built: run rt ci first")
     count = int(sys.argv[1]) if len(sys.argv) > 1 else 4000
-    read = sum(compare(yaml, range(start, min(start + 200, count))) for start in range(0, count, 200))
-    print(f"YAML: {count} documents read as PyYAML reads them, {read} of them to a node")
+    loader = getattr(yaml, "CBaseLoader", yaml.BaseLoader)
+    with tempfile.TemporaryDirectory() as folder:
+        for seed in range(count):
+            compare(yaml, loader, folder, seed)
+    print(f"YAML: {count} documents read as PyYAML reads them")
 
 
 if __name__ == "__main__":

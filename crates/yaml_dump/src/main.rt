@@ -1,49 +1,45 @@
-//! Prints what YAML texts stand for, a line for each node, or why one stands for nothing.
+//! Reads a YAML file, whose name is the one word, and prints it as the project prints YAML; or prints its fault.
 //!
-//! The words are files. Of each, a line tells the file, and then come its nodes, each before those that stand in it: `null`,
-//! `true`, `false`, `whole` and `decimal` with the text as written, `text` with its bytes in hexadecimal digits, `items` and
-//! `pairs` with their number. A pair is its key, as a text, and its value.
+//! The exit status is 0 for a text that has a node, 2 for one that has a fault, and 1 where the file can't be read.
 #![tactic(auto)]
 
-mod dump;
+mod again;
 
-use crate::dump::dump;
+use crate::again::printed;
 use std::alloc::Global;
-use std::io::Write;
+use std::io::{ErrorKind, Write};
 use std::process::ExitCode;
 use std::rt::Runtime;
 use std::{env, fs, io};
-use yaml_profile::parse;
 
 /// The longest text: a line of it has a number below 2^32.
 const MAX_LEN: usize = u32::MAX as usize - 1;
 
 fn main(rt: HostRuntime) -> ExitCode {
-    match run(&rt, rt.alloc()) {
-        Ok(()) => ExitCode::from(0),
-        Err(_) => ExitCode::from(1),
-    }
+    ExitCode::from(run(&rt, rt.alloc()).unwrap_or(1))
 }
 
-fn run<R: Runtime>(rt: &R, alloc: Global) -> io::Result<()> {
-    for path in env::args(rt)?.skip(1) {
-        let text = fs::read(rt, path.as_str())?;
-        let mut lines = Vec::new(alloc);
-        dump::file(&mut lines, path.as_str())?;
-        tell(alloc, &mut lines, &text)?;
-        io::writer(rt).write_all(&lines)?;
-    }
-    Ok(())
+fn run<R: Runtime>(rt: &R, alloc: Global) -> io::Result<u8> {
+    let Some(path) = env::args(rt)?.skip(1).next() else {
+        return Err(io::Error::from(ErrorKind::InvalidInput));
+    };
+    let text = fs::read(rt, path.as_str())?;
+    tell(rt, alloc, &text)
 }
 
-// Adds the lines of a text's nodes, or the line of its fault.
-fn tell(alloc: Global, lines: &mut Vec<u8>, text: &[u8]) -> io::Result<()> {
+fn tell<R: Runtime>(rt: &R, alloc: Global, text: &[u8]) -> io::Result<u8> {
     if text.len() > MAX_LEN {
-        return Err(io::Error::from(io::ErrorKind::FileTooLarge));
+        return Err(io::Error::from(ErrorKind::FileTooLarge));
     }
-    match parse(alloc, text) {
-        Ok(node) => dump(lines, &node)?,
-        Err(fault) => dump::fault(lines, fault)?,
+    match printed(alloc, text) {
+        Ok(bytes) => {
+            io::writer(rt).write_all(bytes.as_slice())?;
+            Ok(0)
+        }
+        Err(fault) => {
+            let line = format!(in alloc; "{fault:?}\n")?;
+            io::writer(rt).write_all(line.as_str().as_bytes())?;
+            Ok(2)
+        }
     }
-    Ok(())
 }
