@@ -82,8 +82,8 @@ choices_due words effect t = option_map_or (λ w. due effect w.stages t w.lock) 
 
 -- ---- the headline
 
--- by some book, which has one content under each MD5, the moment at the start is sound, and it has what was met since. The
--- book that a world tells at the end is such a one, where no two contents met share an MD5
+-- no two contents that were met share an MD5: there is a book, with one content under each MD5, by which the moment at the
+-- start is sound, and which has what was met since
 pub record IsReliable (effect : Effect) (m n : Moment) : Type 0 where
   pub book : Book
   pub sound : IsSound book effect m

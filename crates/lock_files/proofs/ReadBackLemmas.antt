@@ -1,5 +1,5 @@
 -- What others build on: a lock that is printed is read back, what is read is in form, and a lock stays in form.
-use Rattle.std.proofs.Common.{◌≡◌, ℕ, List, refl, sym, ap, ◌∙◌, bytes_eq, cond, IsTrue, Option, Some, None}
+use Rattle.std.proofs.Common.{◌≡◌, ℕ, List, refl, sym, ap, ◌∙◌, bytes_eq, cond, subst, IsTrue, Option, Some, None, Result, Ok, Err, IfOk}
 use Rattle.std.proofs.lemmas.Bool.{and_from, both_ways, cond_both, cond-true}
 use Rattle.std.proofs.lemmas.Slice.Eq.{bytes_eq-Decides}
 use Rattle.lock_files.specs.declared.entry.Entry.{Entry}
@@ -43,3 +43,15 @@ lock_in-reading text =
     cond_both test (Some book) None (IsReading text)
     (λ t. (record { printed = (bytes_eq-Decides text (lock_text book)).0 t; good = book_in-book text }, alone))
     (λ f other l. both_ways test f ((bytes_eq-Decides text (lock_text book)).1 (l.printed ∙ ap lock_text (alone other l))))
+
+-- the same of the book that was found, and where none was
+pub reading_found : (text : List ℕ) (book : Lock) → lock_in text ≡ Some book → IsReading text (Some book)
+reading_found text book e = subst (IsReading text) e (lock_in-reading text)
+
+pub reading_none : (text : List ℕ) → lock_in text ≡ None → IsReading text None
+reading_none text e = subst (IsReading text) e (lock_in-reading text)
+
+-- what follows from what Ok answers is true of Ok
+pub if_ok : {A E : Type 0} (r : Result A E) (P Q : A → Type 0) → ((a : A) → P a → Q a) → IfOk r P → IfOk r Q
+if_ok (Ok a) P Q k h = k a h
+if_ok (Err e) P Q k h = tt

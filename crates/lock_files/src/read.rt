@@ -1,7 +1,7 @@
 // The book of a lock's text.
 ghost use Rattle.std.specs.Prelude.{◌≡◌, [], ◌∷◌, Some, None, Err, IfOk};
 ghost use Rattle.std.specs.Str.{IsAscii};
-ghost use Rattle.lock_files.specs.Read.{with_path, begun, stages_of, without_colon, read_line, path_in, book_in, lock_in};
+ghost use Rattle.lock_files.specs.Read.{with_path, begun, stages_of, without_colon, read_line, path_in, book_in, lock_in, IsReading};
 ghost use Rattle.lock_files.specs.declared.read.LockFault.TheVariants.{NotLock};
 
 use crate::field::{path_in, text_of};
@@ -31,8 +31,18 @@ impl From<NoMemory> for LockFault {
     }
 }
 
-/// The book that a text is the printed form of. It is read leniently and printed again: any other text comes out changed.
+/// The book that a text is the printed form of, and no other book in form is; or no book in form has this text.
 pub fn read_lock(alloc: Global, text: &[u8]) -> Result<LockBook, LockFault>
+    ensures read { IfOk result (λ book. lock_in text.now ≡ Some book) }
+    ensures refused { result ≡ Err NotLock → lock_in text.now ≡ None }
+    ensures only_book { IfOk result (λ book. IsReading text.now (Some book)) }
+    ensures no_book { result ≡ Err NotLock → IsReading text.now None }
+{
+    read_printed(alloc, text)
+}
+
+// A text is read leniently, and the book is printed again: any other text than a lock's comes out changed.
+fn read_printed(alloc: Global, text: &[u8]) -> Result<LockBook, LockFault>
     ensures read { IfOk result (λ book. lock_in text.now ≡ Some book) }
     ensures refused { result ≡ Err NotLock → lock_in text.now ≡ None }
 {

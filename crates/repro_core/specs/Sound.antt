@@ -84,8 +84,8 @@ abbrev pub IsMetSince : Book → List Stage → Moment → Moment → Type 0
 IsMetSince book stages m n =
     AllByRecursion (λ s. HasRun (job_of s) m n ⊎ IsKnown n s → Covers book n.tree s) stages
 
--- what the headline asks for: by some book, which has one content under each digest, each entry that was remembered is
--- true, and it has what was met. The book that a world tells at the end is such a one, where no two contents met share an MD5
+-- what the headline asks for: no two contents that were met share an MD5. That is, there is a book, with one content under
+-- each digest, by which each entry that was remembered is true, and which has what was met
 pub record IsSafe (effect : Effect) (stages : List Stage) (lock : Lock) (m n : Moment) : Type 0 where
   pub book : Book
   pub truthful : IsTruthful book effect lock

@@ -1,12 +1,8 @@
-use Rattle.std.proofs.Common.{◌≡◌, Some, Result, Ok, Err, IfOk, ap, ◌∙◌}
+use Rattle.std.proofs.Common.{◌≡◌, Some, ap, ◌∙◌}
 use Rattle.lock_files.specs.Lock.{lock_text}
 use Rattle.lock_files.specs.Read.{lock_in}
-use Rattle.lock_files.proofs.ReadBackLemmas.{lock_in-printed}
+use Rattle.lock_files.proofs.ReadBackLemmas.{lock_in-printed, if_ok}
 use Rattle.lock_files.proofs.print.print_lock.Goals as goal
-
-if_ok : {A E : Type 0} (r : Result A E) (P Q : A → Type 0) → ((a : A) → P a → Q a) → IfOk r P → IfOk r Q
-if_ok (Ok a) P Q k h = k a h
-if_ok (Err e) P Q k h = tt
 
 pub returns-clause-read_back : goal.returns-clause-read_back
 returns-clause-read_back c = λ good.
