@@ -1,95 +1,183 @@
 #!/usr/bin/env python3
 """Times the program beside what one would use otherwise, in the same run, and prints ratios.
 
-Each row is run in turns with its yardstick, and the least of the runs is taken. The program has to be built
-(`rt ci` or `./demo` leaves it at crates/dvc/out/dvc). A tool that is missing is skipped.
+    bench/bench.py [ROW..]      all rows, or those that the words name
+
+Each row is run in turns with its yardsticks, and the least of the runs is taken. The program has to be built (`./demo` or
+`.ci/run` does); DVC names another one. A yardstick that isn't installed is left out. A command that fails ends the script, and
+a row above its limit lets it end with 1.
 """
+import functools
 import os
 import shutil
-import subprocess
+import sys
 import tempfile
-import time
+from dataclasses import dataclass
 
-TOP = os.path.dirname(os.path.dirname(os.path.abspath(__file__)))
-DVC = os.path.join(TOP, "crates", "dvc", "out", "dvc")
-MIB = 1 << 20
+sys.path.insert(0, os.path.join(os.path.dirname(os.path.abspath(__file__)), "..", "checks"))
+from common import DVC, MIB, entry, lock, need_built, seconds, stage, stages, write  # noqa: E402
 
-
-def seconds(words, folder):
-    start = time.perf_counter()
-    subprocess.run(words, cwd=folder, stdout=subprocess.DEVNULL, stderr=subprocess.DEVNULL)
-    return time.perf_counter() - start
+REPRO = [DVC, "repro"]
 
 
-def compare(name, ours, yardsticks, folder, runs, before=lambda: None):
-    """Prints our least time, and its ratio to the least time of each yardstick."""
-    yardsticks = [words for words in yardsticks if shutil.which(words[0])]
-    least = [float("inf")] * (1 + len(yardsticks))
-    for _ in range(runs):
-        for place, words in enumerate([ours] + yardsticks):
-            before()
-            least[place] = min(least[place], seconds(words, folder))
-    print(f"{name}: {least[0] * 1000:.2f} ms")
-    for words, time_taken in zip(yardsticks, least[1:]):
-        print(f"    {least[0] / time_taken:.2f} times '{' '.join(words)}' ({time_taken * 1000:.2f} ms)")
+@dataclass(frozen=True)
+class Yardstick:
+    """A command that ours is compared with, and the ratio that ours may not go above."""
+
+    words: tuple
+    limit: float = float("inf")
+
+    def told(self):
+        """The command as it is printed."""
+        text = self.words[2] if self.words[:2] == ("sh", "-c") else " ".join(self.words)
+        return text if len(text) <= 60 else f"{text[:57]}.."
 
 
-def stage(name, command, deps, outs):
-    lines = [f"  {name}:", f"    cmd: {command}", "    deps:"] + [f"    - {dep}" for dep in deps]
-    return "\n".join(lines + ["    outs:"] + [f"    - {out}" for out in outs]) + "\n"
+class Bench:
+    """Runs rows, and keeps whether one was above its limit."""
 
+    def __init__(self):
+        self.above = []
 
-def write(folder, name, text):
-    with open(os.path.join(folder, name), "w", encoding="ascii") as file:
-        file.write(text)
+    def row(self, name, folder, yardsticks=(), runs=5, before=lambda: None, most=float("inf")):
+        """Prints our least time, and its ratio to the least time of each yardstick; gives ours."""
+        yardsticks = [one for one in yardsticks if shutil.which(one.words[0])]
+        least = [float("inf")] * (1 + len(yardsticks))
+        for _ in range(runs):
+            for place, words in enumerate([REPRO, *(one.words for one in yardsticks)]):
+                before()
+                least[place] = min(least[place], seconds(list(words), folder))
+        print(f"{name}: {least[0] * 1000:.2f} ms{self.judged(name, least[0], most, ' s')}", flush=True)
+        for one, taken in zip(yardsticks, least[1:]):
+            ratio = least[0] / taken
+            judged = self.judged(name, ratio, one.limit, "")
+            print(f"    {ratio:.2f} times '{one.told()}' ({taken * 1000:.2f} ms){judged}", flush=True)
+        return least[0]
+
+    def judged(self, name, value, limit, unit):
+        """What is said of a value's limit, if it has one."""
+        if limit == float("inf"):
+            return ""
+        if value > limit:
+            self.above.append(name)
+        return f", {'ABOVE' if value > limit else 'within'} the limit of {limit}{unit}"
 
 
 def remove(folder, names):
+    """Removes these files, where they stand."""
     for name in names:
-        path = os.path.join(folder, name)
-        if os.path.exists(path):
-            os.remove(path)
+        write(folder, name, None)
 
 
-def start_up(folder):
-    write(folder, "Makefile", "all: ;\n")
-    compare("start-up, no dvc.yaml", [DVC, "repro"], [["true"], ["make", "-q"]], folder, 50)
+def settled(folder, *yardsticks):
+    """Runs what the next rows find done."""
+    for words in (REPRO, *yardsticks):
+        if shutil.which(words[0]):
+            seconds(words, folder)
 
 
-def one_large_file(folder):
-    with open(os.path.join(folder, "big"), "wb") as file:
+def start_up(bench, folder):
+    """The start, where there is nothing to do."""
+    write(folder, "Makefile", "all: made\n")
+    write(folder, "made", "")
+    bench.row("start-up, no dvc.yaml", folder, [Yardstick(("true",)), Yardstick(("make", "-q"))], runs=50)
+
+
+def fill(folder, name, count):
+    """Puts so many MiB of random bytes in a file."""
+    with open(os.path.join(folder, name), "wb") as file:
         piece = os.urandom(MIB)
-        for _ in range(256):
+        for _ in range(count):
             file.write(piece)
+
+
+def large_files(bench, folder):
+    """One large file that is named, and one that is copied and named."""
+    fill(folder, "big", 256)
+    write(folder, "dvc.yaml", stages(stage("copy", "cp big copy", ["big"], ["copy"])))
+    again = functools.partial(remove, folder, ["copy", "dvc.lock"])
+    by_hand = Yardstick(("sh", "-c", "md5sum big && cp big copy && md5sum copy"))
+    yardsticks = [Yardstick(("cp", "big", "copy")), by_hand]
+    bench.row("a stage that copies 256 MiB, and names both files", folder, yardsticks, 3, again)
+    again()
+    fill(folder, "big", 1024)
     write(folder, "small", "small")
-    write(folder, "dvc.yaml", "stages:\n" + stage("copy", "cp big copy", ["big"], ["copy"]))
-    compare("one stage that copies 256 MiB, and names both files", [DVC, "repro"],
-            [["cp", "big", "copy"], ["sh", "-c", "md5sum big; cp big copy; md5sum copy"]], folder, 3,
-            lambda: remove(folder, ["copy", "dvc.lock"]))
-    write(folder, "dvc.yaml", "stages:\n" + stage("copy", "cp small copy", ["big", "small"], ["copy"]))
-    remove(folder, ["copy", "dvc.lock"])
-    subprocess.run([DVC, "repro"], cwd=folder, stdout=subprocess.DEVNULL, check=True)
-    compare("a skip with a dependency of 256 MiB", [DVC, "repro"], [["md5sum", "big"]], folder, 5)
+    write(folder, "dvc.yaml", stages(stage("copy", "cp small copy", ["big", "small"], ["copy"])))
+    settled(folder)
+    bench.row("a skip with a dependency of 1 GiB", folder, [Yardstick(("md5sum", "big"), 1.18)], 5)
 
 
-def many_stages(folder):
-    names = [f"out{n}" for n in range(300)]
-    write(folder, "in", "in")
-    write(folder, "dvc.yaml", "stages:\n" + "".join(stage(f"s{n}", f"cp in out{n}", ["in"], [f"out{n}"]) for n in range(300)))
-    rules = "".join(f"{name}: in\n\tcp in {name}\n" for name in names)
-    write(folder, "Makefile", "all: " + " ".join(names) + "\n" + rules)
-    compare("300 stages, all run", [DVC, "repro"], [["make"]], folder, 3, lambda: remove(folder, names + ["dvc.lock"]))
-    subprocess.run([DVC, "repro"], cwd=folder, stdout=subprocess.DEVNULL, check=True)
-    subprocess.run(["make"], cwd=folder, stdout=subprocess.DEVNULL, check=False)
-    compare("300 stages, all skipped", [DVC, "repro"], [["make"]], folder, 5)
+def many(folder, count):
+    """Writes so many stages with a file each, for the program, make and ninja; gives the files."""
+    texts, rules, builds = [], [], ["rule copy\n  command = cp $in $out\n"]
+    for number in range(count):
+        write(folder, f"in{number}", f"input {number}")
+        texts.append(stage(f"s{number}", f"cp in{number} out{number}", [f"in{number}"], [f"out{number}"]))
+        rules.append(f"out{number}: in{number}\n\tcp in{number} out{number}\n")
+        builds.append(f"build out{number}: copy in{number}\n")
+    outs = [f"out{number}" for number in range(count)]
+    write(folder, "dvc.yaml", stages(*texts))
+    write(folder, "Makefile", "all: " + " ".join(outs) + "\n" + "".join(rules))
+    write(folder, "build.ninja", "".join(builds))
+    return [f"in{number}" for number in range(count)], outs
+
+
+def runs(bench, folder):
+    """Stages that all have to run."""
+    _, outs = many(folder, 300)
+    yardsticks = [Yardstick(("make",)), Yardstick(("ninja",))]
+    again = functools.partial(remove, folder, [*outs, "dvc.lock"])
+    bench.row("300 stages with a file each, all run", folder, yardsticks, 3, again)
+
+
+def skips(bench, folder):
+    """Stages that are all skipped."""
+    ins, outs = many(folder, 3_000)
+    settled(folder, ["ninja"], ["make"])
+    yardsticks = [Yardstick(("ninja",)), Yardstick(("md5sum", *ins, *outs)), Yardstick(("make",))]
+    bench.row("3,000 stages with a file each, all skipped", folder, yardsticks)
+
+
+def falling_order(bench, folder):
+    """A stage with many dependencies, the last one first."""
+    names = [f"d{number:05}" for number in reversed(range(100_000))]
+    for name in names:
+        write(folder, name, name)
+    write(folder, "dvc.yaml", stages(stage("copy", f"cp {names[0]} out", names, ["out"])))
+    settled(folder)
+    by_hand = Yardstick(("sh", "-c", "ls | grep d[0-9] | xargs md5sum"))
+    bench.row("a skip of a stage with 100,000 dependencies in falling order", folder, [by_hand], 2, most=2)
+
+
+def long_locks(bench, folder):
+    """A run beside locks of more and more other entries."""
+    write(folder, "dvc.yaml", stages(stage("copy", "cp in out", ["in"], ["out"])))
+    write(folder, "in", "input")
+    first = None
+    for count in (0, 3_000, 10_000, 60_000):
+        others = [entry(f"s{number}", "cp in out", {"in": b"input"}, {f"o{number}": b"input"}) for number in range(count)]
+        text = lock(others).encode() if others else None
+        by_hand = Yardstick(("sh", "-c", "cp dvc.lock copy && sync copy"))
+        # Each time the lock lacks the stage, so it runs.
+        before = functools.partial(write, folder, "dvc.lock", text)
+        taken = bench.row(f"a run beside a lock of {count} entries", folder, [by_hand] if text else [], 5, before)
+        first = first or taken
+        print(f"    {taken / first:.2f} times the run without a lock", flush=True)
+
+
+ROWS = [start_up, large_files, runs, skips, falling_order, long_locks]
 
 
 def main():
-    if not os.access(DVC, os.X_OK):
-        raise SystemExit("the program isn't built: run ./demo first")
-    for rows in (start_up, one_large_file, many_stages):
+    """Times each row in a folder of its own."""
+    need_built(DVC)
+    bench = Bench()
+    wanted = [row for row in ROWS if not sys.argv[1:] or row.__name__ in sys.argv[1:]]
+    for row in wanted:
         with tempfile.TemporaryDirectory() as folder:
-            rows(folder)
+            row(bench, folder)
+    if bench.above:
+        raise SystemExit("above their limits: " + "; ".join(bench.above))
 
 
 if __name__ == "__main__":

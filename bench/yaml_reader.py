@@ -1,30 +1,25 @@
 #!/usr/bin/env python3
 """Times the reader and the printer of YAML, by the program `yaml_dump`, and tells its memory.
 
-`yaml_dump` reads a text and prints it again; it has to be built (`rt ci` leaves it at crates/yaml_dump/out/yaml_dump). A lock
-of many stages is read beside PyYAML's C loader, in the same run; hostile texts are read at a quarter and at their whole
-length, so that the times tell whether they grow with the length alone.
+`yaml_dump` reads a text and prints it again; it has to be built (`.ci/run` does); YAML_DUMP names another one. A lock of many
+stages is read beside PyYAML's C loader, in the same run; hostile texts are read at a quarter and at their whole length, so that
+the times tell whether they grow with the length alone. A run that ends neither well nor with the text's fault ends the script.
 """
 import os
 import subprocess
 import sys
 import tempfile
-import time
 
-TOP = os.path.dirname(os.path.dirname(os.path.abspath(__file__)))
-DUMP = os.path.join(TOP, "crates", "yaml_dump", "out", "yaml_dump")
-MIB = 1 << 20
+sys.path.insert(0, os.path.join(os.path.dirname(os.path.abspath(__file__)), "..", "checks"))
+from common import MIB, YAML_DUMP, entry, lock, need_built, seconds, write  # noqa: E402
+
 LOAD = "import sys, yaml; yaml.load(open(sys.argv[1], 'rb').read(), Loader=yaml.CSafeLoader)"
-
-
-def lock(count):
-    path = "    - path: {}{}\n      hash: md5\n      md5: 900150983cd24fb0d6963f7d28e17f72\n      size: {}\n"
-    text = "schema: '2.0'\nstages:\n"
-    for n in range(count):
-        text += f"  stage{n}:\n    cmd: python train.py --seed {n}\n    deps:\n" + path.format("data/in", n, n)
-        text += "    outs:\n" + path.format("models/out", n, 3 * n)
-    return text.encode()
-
+# What `yaml_dump` ends with: a text that has a node, and one that has a fault.
+READ, REFUSED = 0, 2
+MEMORY = (
+    "import resource, subprocess, sys; subprocess.run(sys.argv[1:], stdout=subprocess.DEVNULL, check=True); "
+    "print(resource.getrusage(resource.RUSAGE_CHILDREN).ru_maxrss)"
+)
 
 HOSTILE = {
     "open brackets": lambda length: b"[" * length,
@@ -43,48 +38,57 @@ HOSTILE = {
 }
 
 
-def seconds(words):
-    start = time.perf_counter()
-    subprocess.run(words, stdout=subprocess.DEVNULL, stderr=subprocess.DEVNULL, check=False)
-    return time.perf_counter() - start
+def long_lock(count):
+    """A lock of so many stages."""
+    deps, outs = {"data/in": b"input"}, {"models/out": b"output"}
+    return lock(entry(f"stage{number}", f"python train.py --seed {number}", deps, outs) for number in range(count)).encode()
 
 
-# The most memory of a run, in bytes, told by a process of its own that has no other child.
-def memory(words):
-    code = "import resource, subprocess, sys; subprocess.run(sys.argv[1:], stdout=subprocess.DEVNULL); print(resource.getrusage(resource.RUSAGE_CHILDREN).ru_maxrss)"
-    return int(subprocess.run([sys.executable, "-c", code] + words, capture_output=True, check=True).stdout) * 1024
+def memory(words, folder):
+    """The most memory of a run, in bytes, told by a process of its own that has no other child."""
+    done = subprocess.run([sys.executable, "-c", MEMORY, *words], cwd=folder, capture_output=True, check=True)
+    return int(done.stdout) * 1024
+
+
+def locks(words, folder):
+    """A long lock, beside PyYAML's C loader."""
+    text = long_lock(60_000)
+    write(folder, "text.yaml", text)
+    ours = min(seconds(words, folder) for _ in range(3))
+    used = memory(words, folder) / len(text)
+    print(f"a lock of 60,000 stages, {len(text) / MIB:.1f} MiB: {ours:.2f} s, {used:.1f} bytes of memory a byte")
+    try:
+        from yaml import CSafeLoader  # noqa: F401
+    except ImportError:
+        print("    no PyYAML with a C loader here")
+        return
+    theirs = seconds([sys.executable, "-c", LOAD, "text.yaml"], folder)
+    print(f"    PyYAML's C loader takes {theirs:.2f} s, {theirs / ours:.0f} times as long")
+
+
+def mappings(words, folder):
+    """Mappings of many keys, whose time should grow as their length does."""
+    for count in (15_000, 60_000):
+        write(folder, "text.yaml", "".join(f"key{number}: {number}\n" for number in range(count)))
+        print(f"a mapping of {count} keys: {min(seconds(words, folder) for _ in range(3)):.3f} s")
+
+
+def hostile(words, folder):
+    """Texts that would take a careless reader long."""
+    for name, text in HOSTILE.items():
+        times = []
+        for length in (16 * MIB, 64 * MIB):
+            write(folder, "text.yaml", text(length))
+            times.append(seconds(words, folder, (READ, REFUSED)))
+        print(f"{name}: 16 MiB {times[0]:.2f} s, 64 MiB {times[1]:.2f} s")
 
 
 def main():
-    if not os.access(DUMP, os.X_OK):
-        raise SystemExit("yaml_dump isn't built: run rt ci first")
+    """Times the lock, the mappings and the hostile texts."""
+    need_built(YAML_DUMP)
     with tempfile.TemporaryDirectory() as folder:
-        path = os.path.join(folder, "text.yaml")
-
-        def put(text):
-            with open(path, "wb") as file:
-                file.write(text)
-            return len(text)
-
-        length = put(lock(60_000))
-        ours = min(seconds([DUMP, path]) for _ in range(3))
-        print(f"a lock of 60,000 stages, {length / MIB:.1f} MiB: {ours:.2f} s, {memory([DUMP, path]) / length:.1f} bytes of memory a byte")
-        try:
-            import yaml
-            if hasattr(yaml, "CSafeLoader"):
-                theirs = seconds([sys.executable, "-c", LOAD, path])
-                print(f"    PyYAML's C loader takes {theirs:.2f} s, {theirs / ours:.0f} times as long")
-        except ImportError:
-            print("    no PyYAML here")
-        for count in (15_000, 60_000):
-            put(b"".join(b"key%d: %d\n" % (n, n) for n in range(count)))
-            print(f"a mapping of {count} keys: {min(seconds([DUMP, path]) for _ in range(3)):.3f} s")
-        for name, text in HOSTILE.items():
-            times = []
-            for length in (16 * MIB, 64 * MIB):
-                put(text(length))
-                times.append(seconds([DUMP, path]))
-            print(f"{name}: 16 MiB {times[0]:.2f} s, 64 MiB {times[1]:.2f} s")
+        for rows in (locks, mappings, hostile):
+            rows([YAML_DUMP, "text.yaml"], folder)
 
 
 if __name__ == "__main__":

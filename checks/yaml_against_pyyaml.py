@@ -1,19 +1,19 @@
 #!/usr/bin/env python3
 """Compares the reader of YAML with PyYAML on random documents of the part that both read: their structure and their texts.
 
-What is read here is printed again, and PyYAML reads both texts.
+What is read here is printed again, and PyYAML reads both texts. A file that can't be read is told, too.
 
-The program `yaml_dump` has to be built (`rt ci` leaves it at crates/yaml_dump/out/yaml_dump). Where PyYAML isn't
-installed, nothing is compared. Each document comes from a seed, and the first that differs is printed.
+`.ci/run` runs this after the gate, which builds the program `yaml_dump`; YAML_DUMP names another one. Where PyYAML isn't
+installed, nothing is compared, and under CI=true that fails. Each document comes from a seed, and the first that differs is
+printed.
 """
-import os
 import random
 import subprocess
 import sys
 import tempfile
 
-TOP = os.path.dirname(os.path.dirname(os.path.abspath(__file__)))
-DUMP = os.path.join(TOP, "crates", "yaml_dump", "out", "yaml_dump")
+from common import YAML_DUMP, expect, need_built, passed_over, write
+
 WORDS = ["a", "b c", "x1", "null", "true", "No", "12", "-3", "0x1F", "1.5", "1e3", ".5", "~", "a#b", "a:b", "it's", "é", "日本", "-x", "?y", "a, b", "<", "=", "a\\b"]
 # In flow forms PyYAML takes no plain scalar that begins with `?`.
 PLAIN_IN_FLOW = [word for word in WORDS if "," not in word and word[0] != "?"]
@@ -42,8 +42,8 @@ class Writer:
         text += self.block(0, 0)
         return text + self.some(["", "", "...\n", "... # end\n", "\n# last\n"])
 
-    # a node on lines of its own at this indentation, with its line end
     def block(self, column, depth):
+        """A node on lines of its own at this indentation, with its line end."""
         kind = self.some(["map", "map", "list", "list", "scalar"]) if depth < 5 else "scalar"
         if kind == "map":
             return self.mapping(column, depth)
@@ -91,15 +91,15 @@ class Writer:
             return self.comment() + "\n" + self.block(column + self.random.randint(1, 4), depth + 1)
         return self.compact(self.random.randint(1, 3), column)
 
-    # a collection that begins on the dash's line
     def compact(self, gap, column):
+        """A collection that begins on the dash's line."""
         deeper = column + 1 + gap
         parts = [self.some(["- ", self.key(number) + ": "]) for number in range(self.random.randint(1, 3))]
         same = [part for part in parts if (part == "- ") == (parts[0] == "- ")]
         return " " * gap + (" " * deeper).join(part + self.inline(deeper) + "\n" for part in same)
 
-    # a scalar or flow form on a line, whose further lines are deeper than the parent
     def inline(self, parent):
+        """A scalar or flow form on a line, whose further lines are deeper than the parent."""
         kind = self.some(["plain", "plain", "plain", "single", "double", "flow", "folded"])
         if kind == "plain":
             return self.some(WORDS)
@@ -171,9 +171,11 @@ NULLS = ("", "~", "null", "Null", "NULL")
 BOOLS = ("true", "True", "TRUE", "false", "False", "FALSE")
 
 
-# Whether two documents, which PyYAML made without kinds, are one: mappings in order, lists, and texts. Nulls and booleans are
-# printed in one way.
 def agree(one, other):
+    """Whether two documents, which PyYAML made without kinds, are one: mappings in order, lists, and texts.
+
+    Nulls and booleans are printed in one way.
+    """
     if isinstance(one, dict) and isinstance(other, dict):
         return list(one) == list(other) and all(agree(one[key], other[key]) for key in one)
     if isinstance(one, list) and isinstance(other, list):
@@ -187,10 +189,10 @@ def agree(one, other):
 
 
 def compare(yaml, loader, folder, seed):
+    """Has both read the document of a seed, and PyYAML what is printed of it; a difference ends the script."""
     text = Writer(seed).document()
-    with open(os.path.join(folder, "text.yaml"), "w", encoding="utf-8", newline="") as file:
-        file.write(text)
-    done = subprocess.run([DUMP, "text.yaml"], cwd=folder, capture_output=True, check=False)
+    write(folder, "text.yaml", text)
+    done = subprocess.run([YAML_DUMP, "text.yaml"], cwd=folder, capture_output=True, check=False)
     printed = done.stdout.decode()
     if done.returncode == 0 and agree(yaml.load(printed, Loader=loader), yaml.load(text, Loader=loader)):
         return
@@ -198,14 +200,24 @@ def compare(yaml, loader, folder, seed):
     raise SystemExit(1)
 
 
+def unread(folder):
+    """Without a word, and for what can't be read, the program says so and ends with 1."""
+    for words in ([], ["missing.yaml"], ["."]):
+        done = subprocess.run([YAML_DUMP, *words], cwd=folder, capture_output=True, check=False)
+        told = (done.returncode, done.stdout, done.stderr != b"")
+        expect(f"yaml_dump {' '.join(words)}: the status, the output, and whether it says why", told, (1, b"", True))
+
+
 def main():
+    """Compares as many documents as the first word says, else 4,000."""
+    need_built(YAML_DUMP)
+    with tempfile.TemporaryDirectory() as folder:
+        unread(folder)
     try:
         import yaml
     except ImportError:
-        print("YAML: no PyYAML here, so nothing was compared")
+        passed_over("YAML", "no PyYAML here")
         return
-    if not os.access(DUMP, os.X_OK):
-        raise SystemExit("yaml_dump isn't built: run rt ci first")
     count = int(sys.argv[1]) if len(sys.argv) > 1 else 4000
     loader = getattr(yaml, "CBaseLoader", yaml.BaseLoader)
     with tempfile.TemporaryDirectory() as folder:

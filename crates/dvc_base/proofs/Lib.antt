@@ -1,3 +1,4 @@
 pub mod NormalLemmas
 pub mod PathLemmas
 pub mod NameLemmas
+pub mod FaultLemmas

@@ -1,6 +1,10 @@
 pub mod formers
 pub mod Path
 pub mod Normal
+pub mod Limits
+pub mod FaultParts
 pub mod Fault
+pub mod Answer
 pub mod Join
 pub mod Name
+pub mod RunKey

@@ -1,5 +1,6 @@
 -- Paths: lists of components, from the root of the repository down.
 --     under q p         p is q, or lies below q
+--     is_one p q        the two are one path
 --     overlap p q       one of them is the other, or lies below it
 --     is_within p q     p lies below q
 --     path_text p       the text of a path: components with a slash between them, `.` for the root
@@ -13,6 +14,10 @@ abbrev pub under : Path → Path → Bool
 under [] p = true
 under (c ∷ q) [] = false
 under (c ∷ q) (d ∷ p) = bytes_eq c d && under q p
+
+-- each lies at or below the other
+abbrev pub is_one : Path → Path → Bool
+is_one p q = under q p && under p q
 
 abbrev pub overlap : Path → Path → Bool
 overlap p q = under p q || under q p

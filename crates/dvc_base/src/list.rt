@@ -1,5 +1,5 @@
 // Lists of plain data, each seen by a contract as the list of its items.
-ghost use Rattle.std.specs.Prelude.{◌≡◌, List, [], ◌∷◌, ◌++◌, OnOk, OnErr};
+ghost use Rattle.std.specs.Prelude.{◌≡◌, List, [], ◌∷◌, ◌++◌, map, OnOk, OnErr, IfOk};
 
 use crate::{NoMemory, Plain, Text};
 use std::alloc::Global;
@@ -48,6 +48,19 @@ impl<T: Drop> Plural<T> {
     {
         self.items.push(item)?;
         Ok(())
+    }
+}
+
+impl Texts {
+    /// The texts of their own.
+    pub fn of(alloc: Global, texts: &[&str]) -> Result<Texts, NoMemory>
+        ensures same { IfOk result (λ own. own ≡ map (λ text. text.now) texts.now) }
+    {
+        let mut own = Texts::new(alloc);
+        for text in texts {
+            own.push(Text::of(alloc, text)?)?;
+        }
+        Ok(own)
     }
 }
 

@@ -1,8 +1,9 @@
 // Names of objects, which are told from one another by the MD5 of what they hold.
-ghost use Rattle.std.specs.Prelude.{◌≡◌, [], ◌∷◌, ◌++◌, length, take, drop, codes, IsTrue, IfOk};
+ghost use Rattle.std.specs.Prelude.{◌≡◌, [], ◌∷◌, ◌++◌, length, take, drop, codes, IsTrue, IfOk, OnOk};
 ghost use Rattle.std.specs.List.{list_all};
 ghost use Rattle.dvc_base.specs.Name.{is_digit, are_digits, name_with, name_in, name_text, ending_of, place_of};
 
+use crate::path::push_part;
 use crate::{NoMemory, Rel, Text};
 use std::alloc::Global;
 use std::marker::Model;
@@ -68,6 +69,20 @@ impl Name {
         LISTING_LEN
     }
 
+    /// The digits.
+    pub fn digits(&self) -> &[u8]
+        ensures same { result.now ≡ self.now.digits }
+    {
+        self.digits.as_slice()
+    }
+
+    /// What stands behind the digits.
+    pub fn ending(&self) -> &str
+        ensures exact { result.now ≡ ending_of self.now.dir }
+    {
+        ending(self.dir)
+    }
+
     /// Where the object stands, below `.dvc/cache` or a remote.
     pub fn place(&self, alloc: Global) -> Result<Rel, NoMemory>
         ensures exact { IfOk result (λ path. path ≡ place_of self.now) }
@@ -82,14 +97,23 @@ fn with_digits(text: &[u8], dir: bool) -> Option<Name>
     requires { length text.now ≡ 32 }
     ensures exact { result ≡ name_with text.now dir }
 {
-    for byte in text {
-        if !is_lower_hex(*byte) {
-            return None;
-        }
+    if !are_lower_hex(text) {
+        return None;
     }
     let mut digits = [0; DIGITS];
     digits.copy_from_slice(text);
     Some(Name { digits, dir })
+}
+
+pub(crate) fn are_lower_hex(text: &[u8]) -> bool
+    ensures exact { result ≡ list_all is_digit text.now }
+{
+    for byte in text {
+        if !is_lower_hex(*byte) {
+            return false;
+        }
+    }
+    true
 }
 
 fn is_lower_hex(byte: u8) -> bool
@@ -111,11 +135,24 @@ fn place_parts(alloc: Global, digits: &[u8], ending: &str) -> Result<Vec<Text>, 
         codes "files" ∷ codes "md5" ∷ take 2 digits.now ∷ (drop 2 digits.now ++ ending.now) ∷ []) }
 {
     let mut parts = Vec::new(alloc);
-    parts.push(Text::of(alloc, "files")?)?;
-    parts.push(Text::of(alloc, "md5")?)?;
-    parts.push(digits_text(alloc, &digits[..2], "")?)?;
-    parts.push(digits_text(alloc, &digits[2..], ending)?)?;
+    push_part(alloc, &mut parts, "files")?;
+    push_part(alloc, &mut parts, "md5")?;
+    push_digits(alloc, &mut parts, &digits[..2], "")?;
+    push_digits(alloc, &mut parts, &digits[2..], ending)?;
     Ok(parts)
+}
+
+fn push_digits(
+    alloc: Global,
+    parts: &mut Vec<Text>,
+    digits: &[u8],
+    ending: &str,
+) -> Result<(), NoMemory>
+    requires { IsTrue (list_all is_digit digits.now) }
+    ensures ok { OnOk result (parts.new.items ≡ parts.old.items ++ (digits.now ++ ending.now) ∷ []) }
+{
+    parts.push(digits_text(alloc, digits, ending)?)?;
+    Ok(())
 }
 
 // The text of digits with an ending behind them.
@@ -128,5 +165,5 @@ fn digits_text(alloc: Global, digits: &[u8], ending: &str) -> Result<Text, NoMem
         text.push(char::from(*digit))?;
     }
     text.push_str(ending)?;
-    Text::of(alloc, text.as_str())
+    Ok(Text::from_string(text))
 }

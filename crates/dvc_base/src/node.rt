@@ -19,6 +19,36 @@ pub enum YamlFault {
     NoMemory,
 }
 
+impl YamlFault {
+    ghost use Rattle.dvc_base.specs.FaultParts.{line_of, word_of};
+
+    /// The line on which it shows; 0 for want of memory.
+    pub fn line(&self) -> u32
+        ensures exact { result ≡ line_of self.now }
+    {
+        match *self {
+            YamlFault::Syntax { line }
+            | YamlFault::Duplicate { line }
+            | YamlFault::TooDeep { line }
+            | YamlFault::TooWide { line } => line,
+            YamlFault::NoMemory => 0,
+        }
+    }
+
+    /// What is wrong, in a word or two.
+    pub fn word(&self) -> &str
+        ensures exact { result.now ≡ word_of self.now }
+    {
+        match self {
+            YamlFault::Syntax { .. } => "syntax",
+            YamlFault::Duplicate { .. } => "duplicate key",
+            YamlFault::TooDeep { .. } => "too deep",
+            YamlFault::TooWide { .. } => "number too wide",
+            YamlFault::NoMemory => "out of memory",
+        }
+    }
+}
+
 impl From<NoMemory> for YamlFault {
     ghost use Rattle.dvc_base.specs.declared.node.YamlFault.TheVariants.{NoMemory as Memory};
 

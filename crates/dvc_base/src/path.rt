@@ -2,7 +2,7 @@
 ghost use Rattle.std.specs.Prelude.{◌≡◌, ℕ, List, [], ◌∷◌, ◌++◌, ◌↔◌, IsTrue, IfOk, MatchResult, Ok, Err, Some, None, string_bytes};
 ghost use Rattle.std.specs.List.{slice_split};
 ghost use Rattle.std.specs.Prelude.{◌⊎◌, ◌==◌, ◌<◌, ◌≤◌, OnOk, length};
-ghost use Rattle.dvc_base.specs.Path.{joined, path_text, under, overlap, is_within};
+ghost use Rattle.dvc_base.specs.Path.{joined, path_text, under, overlap, is_within, is_one};
 ghost use Rattle.dvc_base.specs.Normal.{IsNormal};
 ghost use Rattle.dvc_base.specs.Join.{step, walk};
 ghost use Rattle.dvc_base.specs.declared.path.PathFault.TheVariants.{NoMemory as Memory, Outside, TooLong};
@@ -157,8 +157,9 @@ pub fn is_at_or_below(inner: &Rel, outer: &Rel) -> bool
 /// Whether the two paths are one.
 pub fn is_same(a: &Rel, b: &Rel) -> bool
     ensures equal { IsTrue result ↔ (a.now ≡ b.now) }
+    ensures by_parts { result ≡ is_one a.now b.now }
 {
-    a.parts.len() == b.parts.len() && is_at_or_below(a, b)
+    is_at_or_below(a, b) && is_at_or_below(b, a)
 }
 
 fn begins_with(inner: &[Text], outer: &[Text]) -> bool
@@ -211,15 +212,14 @@ fn take_piece(alloc: Global, parts: &mut Vec<Text>, piece: &str) -> Result<(), P
             None => Err(PathFault::Outside),
         };
     }
-    let part = Text::of(alloc, piece)?;
-    push_part(parts, part)?;
+    push_part(alloc, parts, piece)?;
     Ok(())
 }
 
-fn push_part(parts: &mut Vec<Text>, part: Text) -> Result<(), NoMemory>
-    ensures ok { OnOk result (parts.new.items ≡ parts.old.items ++ part ∷ []) }
+pub(crate) fn push_part(alloc: Global, parts: &mut Vec<Text>, part: &str) -> Result<(), NoMemory>
+    ensures ok { OnOk result (parts.new.items ≡ parts.old.items ++ part.now ∷ []) }
 {
-    parts.push(part)?;
+    parts.push(Text::of(alloc, part)?)?;
     Ok(())
 }
 

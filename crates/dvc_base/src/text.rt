@@ -1,5 +1,5 @@
 // Text and bytes that are owned. A contract sees each as its list of bytes.
-ghost use Rattle.std.specs.Prelude.{◌≡◌, ℕ, List, IfOk, string_bytes};
+ghost use Rattle.std.specs.Prelude.{◌≡◌, ℕ, List, IfOk, IsAscii, string_bytes};
 
 use crate::{NoMemory, Plain};
 use std::alloc::Global;
@@ -23,6 +23,25 @@ impl Text {
         ensures same { IfOk result (λ own. own ≡ text.now) }
     {
         let text = String::from_str(alloc, text)?;
+        Ok(Text { text })
+    }
+
+    /// The text of a string, which is not copied.
+    pub fn from_string(text: String) -> Text
+        ensures same { result ≡ string_bytes text }
+    {
+        Text { text }
+    }
+
+    /// The text of ASCII bytes.
+    pub fn of_ascii(alloc: Global, bytes: &[u8]) -> Result<Text, NoMemory>
+        requires { IsAscii bytes.now }
+        ensures same { IfOk result (λ text. text ≡ bytes.now) }
+    {
+        let mut text = String::new(alloc);
+        for byte in bytes {
+            text.push(char::from(*byte))?;
+        }
         Ok(Text { text })
     }
 

@@ -12,7 +12,7 @@ use Rattle.std.proofs.lemmas.List.{take-append-drop, drop_more, take_more, map-a
 use Rattle.std.proofs.lemmas.List.Folds.{list_any-append}
 use Rattle.std.proofs.lemmas.Map.Text.{is_eq-slice_cmp}
 use Rattle.std.proofs.lemmas.Slice.Eq.{bytes_eq-Decides}
-use Rattle.repro_core.specs.Lock.{is_among}
+use Rattle.repro_laws.specs.Lock.{is_among}
 use Rattle.dvc_cli.specs.Form.{are_distinct}
 
 -- ---- a set of the texts so far

@@ -18,14 +18,14 @@ use Rattle.world_api.specs.Effect.{path_or_root, path_from}
 use Rattle.world_api.specs.Calls.{is_path, is_apart, are_apart}
 use Rattle.lock_files.specs.Word.{is_letter, begins_with_letter, is_name}
 use Rattle.lock_files.proofs.WordLemmas.{name_parts, name-other}
-use Rattle.repro_core.specs.Stage.{dep_paths, stage_outs}
-use Rattle.repro_core.specs.Lock.{is_among}
-use Rattle.repro_core.specs.Headline.{is_ordered}
-use Rattle.repro_core.specs.declared.stage.Stage.{Stage}
-use Rattle.repro_core.proofs.PlanLaw.{apart_rest}
+use Rattle.repro_laws.specs.Stage.{dep_paths, stage_outs}
+use Rattle.repro_laws.specs.Lock.{is_among}
+use Rattle.repro_laws.specs.Headline.{is_ordered}
+use Rattle.repro_laws.specs.declared.stage.Stage.{Stage}
+use Rattle.repro_laws.proofs.PlanLaw.{apart_rest}
 use Rattle.dvc_cli.specs.Form.{are_distinct}
 use Rattle.dvc_cli.specs.Graph.{IsNamed, are_fresh}
-use Rattle.dvc_cli.specs.Plan.{is_graph}
+use Rattle.dvc_cli.specs.Workspace.{is_in_order_as_written}
 
 -- ---- a name, as a text that names a path
 
@@ -198,7 +198,7 @@ abbrev pub goes_before : Stage → List (List ℕ) → Bool
 goes_before s later = are_fresh (is_among later) s.outs && not (list_any (is_among (s.outs ++ later)) s.deps)
 
 pub graph-cons : (s : Stage) (ss : List Stage) → IsNamed s → AllByRecursion IsNamed ss →
-    is_graph (s ∷ ss) ≡ (goes_before s (outs_of ss) && is_graph ss)
+    is_in_order_as_written (s ∷ ss) ≡ (goes_before s (outs_of ss) && is_in_order_as_written ss)
 graph-cons s ss named all =
     let outs = s.outs ++ outs_of ss in
     let paths : flat_map stage_outs (s ∷ ss) ≡ map single outs = all_outs-names (s ∷ ss) (named, all) in
@@ -288,18 +288,18 @@ added_more old new after texts done x within here so_far other grown =
 
 -- ---- stages that are met from the last to the first
 
-graph_later : (s : Stage) (ss : List Stage) → is_graph (s ∷ ss) ≡ true → is_graph ss ≡ true
+graph_later : (s : Stage) (ss : List Stage) → is_in_order_as_written (s ∷ ss) ≡ true → is_in_order_as_written ss ≡ true
 graph_later s ss h =
     let parts = and_parts (are_apart (flat_map stage_outs (s ∷ ss))) (is_ordered (s ∷ ss)) h in
     let own = list_any (λ dep. list_any (overlap dep) (flat_map stage_outs (s ∷ ss))) (dep_paths s) in
     and_from (are_apart (flat_map stage_outs ss)) (is_ordered ss) (apart_rest (stage_outs s) (flat_map stage_outs ss) parts.0) (and_parts (not own) (is_ordered ss) parts.1).1
 
-no_graph_later : (ss : List Stage) (i : ℕ) → is_graph (drop i ss) ≡ false → is_graph ss ≡ false
+no_graph_later : (ss : List Stage) (i : ℕ) → is_in_order_as_written (drop i ss) ≡ false → is_in_order_as_written ss ≡ false
 no_graph_later ss zero h = h
 no_graph_later [] (suc i) h = h
 no_graph_later (s ∷ ss) (suc i) h =
     let later = no_graph_later ss i h in
-    false_from_ne_true (is_graph (s ∷ ss)) (λ e. both_ways (is_graph ss) later (graph_later s ss e))
+    false_from_ne_true (is_in_order_as_written (s ∷ ss)) (λ e. both_ways (is_in_order_as_written ss) later (graph_later s ss e))
 
 named_later : (ss : List Stage) (i : ℕ) → AllByRecursion IsNamed ss → AllByRecursion IsNamed (drop i ss)
 named_later ss zero all = all
@@ -308,7 +308,7 @@ named_later (s ∷ ss) (suc i) all = named_later ss i all.1
 
 -- what is known of the stages so far, whose outputs are the names
 pub record AreLater (names : List ℕ → Bool) (stages : List Stage) : Type 0 where
-  pub graph : is_graph stages ≡ true
+  pub graph : is_in_order_as_written stages ≡ true
   pub outs : (text : List ℕ) → names text ≡ is_among (outs_of stages) text
 
 -- the next stage, in front of those so far
@@ -325,13 +325,13 @@ next_stage stages done s within here named =
     subst (AllByRecursion IsNamed) cut (named_later stages (length stages - (done + 1)) named) in
     record { cut = cut; first = all.0; others = all.1 }
 
-refused : (stages : List Stage) (done : ℕ) (s : Stage) (rest : List Stage) → IsNext stages done s rest → goes_before s (outs_of rest) ≡ false → is_graph stages ≡ false
+refused : (stages : List Stage) (done : ℕ) (s : Stage) (rest : List Stage) → IsNext stages done s rest → goes_before s (outs_of rest) ≡ false → is_in_order_as_written stages ≡ false
 refused stages done s rest next no_place =
     no_graph_later stages (length stages - (done + 1)) (
-    ap is_graph next.cut ∙ graph-cons s rest next.first next.others ∙ and_left (goes_before s (outs_of rest)) (is_graph rest) no_place)
+    ap is_in_order_as_written next.cut ∙ graph-cons s rest next.first next.others ∙ and_left (goes_before s (outs_of rest)) (is_in_order_as_written rest) no_place)
 
 pub graph_stale : (names : List ℕ → Bool) (stages : List Stage) (done : ℕ) (s : Stage) → done < length stages → s ≡ get_or stages (length stages - 1 - done) s →
-    AllByRecursion IsNamed stages → AreLater names (drop (length stages - done) stages) → are_fresh names s.outs ≡ false → is_graph stages ≡ false
+    AllByRecursion IsNamed stages → AreLater names (drop (length stages - done) stages) → are_fresh names s.outs ≡ false → is_in_order_as_written stages ≡ false
 graph_stale names stages done s within here named so_far stale =
     let rest = drop (length stages - done) stages in
     let next = next_stage stages done s within here named in
@@ -346,7 +346,7 @@ names_more names after outs rest so_far grown text =
 
 pub graph_read : (names after : List ℕ → Bool) (stages : List Stage) (done : ℕ) (s : Stage) → done < length stages → s ≡ get_or stages (length stages - 1 - done) s →
     AllByRecursion IsNamed stages → AreLater names (drop (length stages - done) stages) →
-    ((text : List ℕ) → after text ≡ (is_among s.outs text || names text)) → list_any after s.deps ≡ true → is_graph stages ≡ false
+    ((text : List ℕ) → after text ≡ (is_among s.outs text || names text)) → list_any after s.deps ≡ true → is_in_order_as_written stages ≡ false
 graph_read names after stages done s within here named so_far grown read =
     let rest = drop (length stages - done) stages in
     let next = next_stage stages done s within here named in
@@ -366,7 +366,7 @@ graph_more names after stages done s within here named so_far fresh grown unread
     let own : list_any all s.deps ≡ false = sym (any_same after all outs s.deps) ∙ unread in
     let before : goes_before s (outs_of rest) ≡ true = and_from (are_fresh (is_among (outs_of rest)) s.outs) (not (list_any all s.deps)) new (not_from_false (list_any all s.deps) own) in
     let whole : AreLater after (s ∷ rest) = record {
-      graph = graph-cons s rest next.first next.others ∙ and_from (goes_before s (outs_of rest)) (is_graph rest) before so_far.graph;
+      graph = graph-cons s rest next.first next.others ∙ and_from (goes_before s (outs_of rest)) (is_in_order_as_written rest) before so_far.graph;
       outs = outs;
     } in
     subst (AreLater after) (sym next.cut) whole

@@ -2,10 +2,10 @@ pub mod DistinctLemmas
 pub mod FormLaw
 pub mod FormLemmas
 pub mod GraphLemmas
-pub mod LifeLaw
-pub mod PlaceLemmas
-pub mod PlanLemmas
-pub mod ReproLemmas
-pub mod TakesLemmas
 pub mod UsableLemmas
-pub mod WorkLemmas
+pub mod StagesLemmas
+pub mod PlaceLemmas
+pub mod TakesLemmas
+pub mod AnswerLemmas
+pub mod CommandLemmas
+pub mod LifeLaw

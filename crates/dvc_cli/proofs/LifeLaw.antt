@@ -7,17 +7,18 @@ use Rattle.dvc_base.specs.declared.fault.Fault.{Fault}
 use Rattle.world_api.specs.Tree.{Tree, Item, folder, file, item_at}
 use Rattle.world_api.specs.Effect.{Effect}
 use Rattle.world_api.specs.History.{Moment}
+use Rattle.world_api.specs.Layout.{lock_path, yaml_path}
 use Rattle.lock_files.specs.declared.entry.Entry.{Entry}
 use Rattle.lock_files.specs.Book.{Lock, entry_of}
-use Rattle.repro_core.specs.Book.{Book}
-use Rattle.repro_core.specs.Lock.{IsTruthful}
-use Rattle.repro_core.specs.Moments.{lock_path, InTurns}
-use Rattle.repro_core.specs.Sound.{lock_by, lock_of, yaml_path, IsSound, IsMetSince}
-use Rattle.repro_core.specs.declared.stage.Stage.{Stage}
-use Rattle.repro_core.proofs.SoundLaw.{sound, stops}
+use Rattle.repro_laws.specs.Book.{Book}
+use Rattle.repro_laws.specs.Lock.{IsTruthful}
+use Rattle.repro_laws.specs.Moments.{InTurns}
+use Rattle.repro_laws.specs.Sound.{lock_by, lock_of, IsSound, IsMetSince}
+use Rattle.repro_laws.specs.declared.stage.Stage.{Stage}
+use Rattle.repro_laws.proofs.SoundLaw.{sound, stops}
 use Rattle.dvc_cli.specs.Form.{Form, forms_of, stages_of, are_good}
-use Rattle.dvc_cli.specs.Plan.{is_graph, graph_of, stages_in, plan_of, AreUsable}
-use Rattle.dvc_cli.specs.Repro.{is_repro, workspace_fault, Work, work_by, work_of, work_due, InWork, InCommand}
+use Rattle.dvc_cli.specs.Workspace.{is_in_order_as_written, as_written, stages_in_item, stages_in, AreUsable, workspace_fault, Workspace, workspace_by, workspace_of}
+use Rattle.dvc_cli.specs.Command.{is_repro, workspace_due, InWorkspace, InCommand}
 use Rattle.dvc_cli.specs.Life.{IsFresh, IsEdit, IsStop, IsMet, IsReached, fresh, edited, commanded, stopped, LivesAreSound}
 use Rattle.dvc_cli.proofs.FormLemmas.{forms_of-good}
 use Rattle.dvc_cli.proofs.UsableLemmas.{usable}
@@ -36,56 +37,56 @@ if_true b x e = rw e refl
 if_false : (b : Bool) (x : List Stage) → b ≡ false → (if b then Some x else None) ≡ None
 if_false b x e = rw e refl
 
-good_graph : (fs : List Form) (stages : List Stage) → IsTrue (are_good fs) → graph_of (Some (stages_of fs)) ≡ Some stages → AreUsable stages
+good_graph : (fs : List Form) (stages : List Stage) → IsTrue (are_good fs) → as_written (Some (stages_of fs)) ≡ Some stages → AreUsable stages
 good_graph fs stages good e =
-    elim (cases_Bool (is_graph (stages_of fs))) [
+    elim (cases_Bool (is_in_order_as_written (stages_of fs))) [
       | inl holds ↦
-          subst AreUsable (same_stages (stages_of fs) stages (sym (if_true (is_graph (stages_of fs)) (stages_of fs) holds) ∙ e)) (usable fs good holds)
-      | inr fails ↦ absurd (no_stages stages (sym (if_false (is_graph (stages_of fs)) (stages_of fs) fails) ∙ e))
+          subst AreUsable (same_stages (stages_of fs) stages (sym (if_true (is_in_order_as_written (stages_of fs)) (stages_of fs) holds) ∙ e)) (usable fs good holds)
+      | inr fails ↦ absurd (no_stages stages (sym (if_false (is_in_order_as_written (stages_of fs)) (stages_of fs) fails) ∙ e))
     ]
 
-of_forms : (text : List ℕ) (found : Option (List Form)) (stages : List Stage) → forms_of text ≡ found → graph_of (option_map stages_of found) ≡ Some stages → AreUsable stages
+of_forms : (text : List ℕ) (found : Option (List Form)) (stages : List Stage) → forms_of text ≡ found → as_written (option_map stages_of found) ≡ Some stages → AreUsable stages
 of_forms text None stages f e = absurd (no_stages stages e)
 of_forms text (Some fs) stages f e = good_graph fs stages (forms_of-good text fs f) e
 
-of_text : (text : List ℕ) (empty : Bool) (stages : List Stage) → graph_of (if empty then Some [] else option_map stages_of (forms_of text)) ≡ Some stages → AreUsable stages
+of_text : (text : List ℕ) (empty : Bool) (stages : List Stage) → as_written (if empty then Some [] else option_map stages_of (forms_of text)) ≡ Some stages → AreUsable stages
 of_text text true stages e = good_graph [] stages refl e
 of_text text false stages e = of_forms text (forms_of text) stages refl e
 
-of_item : (item : Option Item) (stages : List Stage) → graph_of (stages_in item) ≡ Some stages → AreUsable stages
+of_item : (item : Option Item) (stages : List Stage) → as_written (stages_in_item item) ≡ Some stages → AreUsable stages
 of_item None stages e = good_graph [] stages refl e
 of_item (Some folder) stages e = absurd (no_stages stages e)
 of_item (Some (file text)) stages e = of_text text (length text == 0) stages e
 
-pub plan_usable : (t : Tree) (stages : List Stage) → plan_of t ≡ Some stages → AreUsable stages
+pub plan_usable : (t : Tree) (stages : List Stage) → stages_in t ≡ Some stages → AreUsable stages
 plan_usable t stages e = of_item (item_at t yaml_path) stages e
 
 -- ---- what a command's workspace says
 
-pub record IsWork (t : Tree) (w : Work) : Type 0 where
-  pub plan : plan_of t ≡ Some w.stages
+pub record IsWork (t : Tree) (w : Workspace) : Type 0 where
+  pub plan : stages_in t ≡ Some w.stages
   pub remembered : lock_of t ≡ Some w.lock
 
-no_work : (w : Work) → None ≡ Some w → ⊥
+no_work : (w : Workspace) → None ≡ Some w → ⊥
 no_work w e = cc
 
-same_work : (a b : Work) → Some a ≡ Some b → a ≡ b
+same_work : (a b : Workspace) → Some a ≡ Some b → a ≡ b
 same_work a b e = cc
 
-work_parts : (a : Option Fault) (stages : Option (List Stage)) (lock : Option Lock) (w : Work) → work_by a stages lock ≡ Some w → (stages ≡ Some w.stages) × (lock ≡ Some w.lock)
+work_parts : (a : Option Fault) (stages : Option (List Stage)) (lock : Option Lock) (w : Workspace) → workspace_by a stages lock ≡ Some w → (stages ≡ Some w.stages) × (lock ≡ Some w.lock)
 work_parts (Some fault) stages lock w e = absurd (no_work w e)
 work_parts None None lock w e = absurd (no_work w e)
 work_parts None (Some stages) None w e = absurd (no_work w e)
 work_parts None (Some stages) (Some lock) w e =
     let same = same_work (record { stages = stages; lock = lock }) w e in
-    (ap (λ (x : Work). Some x.stages) same, ap (λ (x : Work). Some x.lock) same)
+    (ap (λ (x : Workspace). Some x.stages) same, ap (λ (x : Workspace). Some x.lock) same)
 
-work_due_parts : (words : List (List ℕ)) (t : Tree) (w : Work) → work_due words t ≡ Some w → IsWork t w
+work_due_parts : (words : List (List ℕ)) (t : Tree) (w : Workspace) → workspace_due words t ≡ Some w → IsWork t w
 work_due_parts words t w e =
     elim (cases_Bool (is_repro words)) [
       | inl holds ↦
-          let found : work_of t ≡ Some w = rw holds at e in
-          let parts = work_parts (workspace_fault t) (plan_of t) (lock_of t) w found in
+          let found : workspace_of t ≡ Some w = rw holds at e in
+          let parts = work_parts (workspace_fault t) (stages_in t) (lock_of t) w found in
           record { plan = parts.0; remembered = parts.1 }
       | inr fails ↦
           let none : None ≡ Some w = rw fails at e in
@@ -127,7 +128,7 @@ stop_sound book effect m n s h = record {
   dvc_firm = λ p below tmp. h.firm p;
 }
 
-work_sound : (book : Book) (effect : Effect) (words : List (List ℕ)) (work : Option Work) (m end n : Moment) → work_due words m.tree ≡ work → IsSound book effect m → IsMet book m end → InWork effect work m end n → IsSound book effect n
+work_sound : (book : Book) (effect : Effect) (words : List (List ℕ)) (work : Option Workspace) (m end n : Moment) → workspace_due words m.tree ≡ work → IsSound book effect m → IsMet book m end → InWorkspace effect work m end n → IsSound book effect n
 work_sound book effect words None m end n e s met h = subst (IsSound book effect) (sym h) s
 work_sound book effect words (Some w) m end n e s met h =
     let is = work_due_parts words m.tree w e in
@@ -138,5 +139,5 @@ pub lives : LivesAreSound
 lives book effect n (fresh _ h) = fresh_sound book effect n h
 lives book effect n (edited m _ r h) = edit_sound book effect m n (lives book effect m r) h
 lives book effect n (commanded words m end _ r met h) =
-    work_sound book effect words (work_due words m.tree) m end n refl (lives book effect m r) met h
+    work_sound book effect words (workspace_due words m.tree) m end n refl (lives book effect m r) met h
 lives book effect n (stopped m _ r h) = stop_sound book effect m n (lives book effect m r) h

@@ -5,11 +5,11 @@ use Rattle.dvc_base.specs.declared.fault.Fault.{Fault}
 use Rattle.dvc_base.specs.declared.fault.Fault.TheVariants.{NotFolder}
 use Rattle.world_api.specs.Tree.{Tree, Item, folder, file, item_at}
 use Rattle.world_api.specs.Calls.{parent}
-use Rattle.world_api.specs.Writes.{dvc_path, IsNoFileAt, CanWrite}
+use Rattle.world_api.specs.Writes.{IsNoFileAt, CanWrite}
+use Rattle.world_api.specs.Layout.{dvc_path, lock_path}
 use Rattle.lock_files.specs.Book.{Lock}
-use Rattle.repro_core.specs.Moments.{lock_path}
-use Rattle.repro_core.specs.Sound.{lock_by, lock_of}
-use Rattle.dvc_cli.specs.Repro.{misplaced}
+use Rattle.repro_laws.specs.Sound.{lock_by, lock_of}
+use Rattle.dvc_cli.specs.Workspace.{place_fault}
 
 root_above_lock : (t : Tree) → item_at t (parent lock_path) ≡ Some folder
 unfolding lock_path
@@ -24,10 +24,10 @@ fault_is_none fault e = cc
 no_lock_folder : (t : Tree) (lock : Lock) → lock_of t ≡ Some lock → item_at t lock_path ≢ Some folder
 no_lock_folder t lock e f = none_is_some lock (sym (ap lock_by f) ∙ e)
 
-no_dvc_file : (t : Tree) → misplaced (item_at t dvc_path) ≡ None → IsNoFileAt t dvc_path
-no_dvc_file t e bytes f = fault_is_none (NotFolder dvc_path) (sym (ap misplaced f) ∙ e)
+no_dvc_file : (t : Tree) → place_fault (item_at t dvc_path) ≡ None → IsNoFileAt t dvc_path
+no_dvc_file t e bytes f = fault_is_none (NotFolder dvc_path) (sym (ap place_fault f) ∙ e)
 
-pub can_write : (t : Tree) (lock : Lock) → misplaced (item_at t dvc_path) ≡ None → lock_of t ≡ Some lock → CanWrite lock_path t
+pub can_write : (t : Tree) (lock : Lock) → place_fault (item_at t dvc_path) ≡ None → lock_of t ≡ Some lock → CanWrite lock_path t
 can_write t lock m e = record {
   room = record { above = root_above_lock t; no_folder = no_lock_folder t lock e };
   no_file = no_dvc_file t m;

@@ -20,28 +20,28 @@ use Rattle.dvc_base.specs.Name.{are_digits}
 use Rattle.world_api.specs.Tree.{Tree, Value, nothing, content, members, value_at}
 use Rattle.world_api.specs.Effect.{path_from, out_paths, is_in_any}
 use Rattle.world_api.specs.Calls.{is_path, is_apart, are_apart}
-use Rattle.world_api.specs.Writes.{dvc_path, tmp_path}
 use Rattle.file_hash.specs.Naming.{named_of, name_of_bytes}
 use Rattle.file_hash.proofs.HashLemmas.{name_of_bytes-digits}
+use Rattle.world_api.specs.Layout.{dvc_path, lock_path, tmp_path, yaml_path}
 use Rattle.lock_files.specs.declared.entry.PathEntry.{PathEntry}
 use Rattle.lock_files.specs.Word.{is_name, is_command}
 use Rattle.lock_files.specs.Form.{is_rising, is_entry}
 use Rattle.lock_files.specs.Form as lock
-use Rattle.repro_core.specs.Stage.{put_text, in_order, job_of, dep_paths, stage_outs, is_above, IsReady}
-use Rattle.repro_core.specs.Order.{first_free, order_of, order}
-use Rattle.repro_core.specs.Lock.{is_among}
-use Rattle.repro_core.specs.Headline.{is_ordered, have_names, IsKept}
-use Rattle.repro_core.specs.Moments.{lock_path, is_record, AreSized}
-use Rattle.repro_core.specs.Entries.{named_path, named_paths}
-use Rattle.repro_core.specs.Sound.{yaml_path, IsRecordable, IsOutside}
-use Rattle.repro_core.specs.declared.stage.Stage.{Stage}
-use Rattle.repro_core.proofs.OrderLemmas.{all_in_order}
-use Rattle.repro_core.proofs.NameLaw.{front_parts, entry_parts}
-use Rattle.repro_core.proofs.RoadLemmas.{apart_root, apart_head, root_outside}
-use Rattle.repro_core.proofs.PlanLaw.{apart_rest, plan_at_root}
+use Rattle.repro_laws.specs.Stage.{put_text, in_order, job_of, dep_paths, stage_outs, is_above, IsReady}
+use Rattle.repro_laws.specs.Order.{first_free, order_of, order}
+use Rattle.repro_laws.specs.Lock.{is_among}
+use Rattle.repro_laws.specs.Headline.{is_ordered, have_names, IsKept}
+use Rattle.repro_laws.specs.Moments.{is_record, AreSized}
+use Rattle.repro_laws.specs.Entries.{named_path, named_paths}
+use Rattle.repro_laws.specs.Sound.{IsRecordable, IsOutside}
+use Rattle.repro_laws.specs.declared.stage.Stage.{Stage}
+use Rattle.repro_laws.proofs.OrderLemmas.{all_in_order}
+use Rattle.repro_laws.proofs.NameLaw.{front_parts, entry_parts}
+use Rattle.repro_laws.proofs.RoadLemmas.{apart_root, apart_head, root_outside}
+use Rattle.repro_laws.proofs.PlanLaw.{apart_rest, plan_at_root}
 use Rattle.dvc_cli.specs.Form.{Form, are_distinct, are_paths, is_good, are_good, stage_of, stages_of}
 use Rattle.dvc_cli.specs.Graph.{IsNamed}
-use Rattle.dvc_cli.specs.Plan.{is_graph, AreUsable}
+use Rattle.dvc_cli.specs.Workspace.{is_in_order_as_written, AreUsable}
 use Rattle.dvc_cli.proofs.GraphLemmas.{single, is_path-name, name_apart, text_swap, dep_paths-names, stage_outs-names, outs_of, all_outs-names}
 
 -- ---- texts in the order of their bytes
@@ -323,10 +323,15 @@ kept_names : (ns : List (List ℕ)) → list_all is_name ns ≡ true → AllByRe
 kept_names [] h = tt
 kept_names (n ∷ ns) h = let parts = and_parts (is_name n) (list_all is_name ns) h in (kept_name n parts.0, kept_names ns parts.1)
 
+root_kept : is_record [] ≡ false
+unfolding lock_path dvc_path tmp_path
+root_kept = refl
+
 kept : (s : Stage) → IsNamed s → IsKept is_record s
 kept s named =
     let P : List Path → Type 0 = AllByRecursion (λ p. is_record p ≡ false) in
     record {
+      dir = ap is_record named.root ∙ root_kept;
       deps = subst P (sym (dep_paths-names s named)) (kept_names s.deps named.deps);
       outs = subst P (sym (stage_outs-names s named)) (kept_names s.outs named.outs);
     }
@@ -441,7 +446,7 @@ all_recordable (s ∷ ss) all = (recordable s all.0, all_recordable ss all.1)
 
 -- ---- the whole
 
-pub usable : (fs : List Form) → IsTrue (are_good fs) → is_graph (stages_of fs) ≡ true → AreUsable (stages_of fs)
+pub usable : (fs : List Form) → IsTrue (are_good fs) → is_in_order_as_written (stages_of fs) ≡ true → AreUsable (stages_of fs)
 usable fs good graph =
     let ss = stages_of fs in
     let forms = and_parts (list_all is_good fs) (are_distinct (map (λ f. f.name) fs)) good in

@@ -14,9 +14,9 @@
 use Rattle.std.specs.Prelude.{◌≡◌, ℕ, ◌-◌, Bool, true, false, not, ◌&&◌, List, [], ◌∷◌, ◌++◌, length, take, drop, map, Option, Some, None, IsTrue, ◌==◌, bytes_eq, codes, if◌then◌else◌, fold}
 use Rattle.std.specs.List.{list_all, flat_map, slice_split}
 use Rattle.lock_files.specs.Word.{is_name, is_command}
-use Rattle.repro_core.specs.Stage.{in_order}
-use Rattle.repro_core.specs.Lock.{is_among}
-use Rattle.repro_core.specs.declared.stage.Stage.{Stage}
+use Rattle.repro_laws.specs.Stage.{in_order}
+use Rattle.repro_laws.specs.Lock.{is_among}
+use Rattle.repro_laws.specs.declared.stage.Stage.{Stage}
 
 pub record Form : Type 0 where
   pub name : List ℕ

@@ -7,8 +7,8 @@ use Rattle.std.specs.Borrow.{Bor}
 use Rattle.std.specs.List.{list_all}
 use Rattle.std.specs.HashSet.{HashSet, contains_by}
 use Rattle.lock_files.specs.Word.{is_name}
-use Rattle.repro_core.specs.Lock.{is_among}
-use Rattle.repro_core.specs.declared.stage.Stage.{Stage}
+use Rattle.repro_laws.specs.Lock.{is_among}
+use Rattle.repro_laws.specs.declared.stage.Stage.{Stage}
 
 pub record IsNamed (s : Stage) : Type 0 where
   pub root : s.dir ≡ []

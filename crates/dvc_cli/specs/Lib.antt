@@ -1,7 +1,6 @@
 pub mod Form
 pub mod Graph
-pub mod Plan
-pub mod Read
+pub mod Workspace
 pub mod Tell
-pub mod Repro
+pub mod Command
 pub mod Life

@@ -7,12 +7,12 @@ use Rattle.dvc_base.specs.Path.{Path}
 use Rattle.world_api.specs.Tree.{item_at}
 use Rattle.world_api.specs.Effect.{Effect}
 use Rattle.world_api.specs.History.{Moment}
-use Rattle.repro_core.specs.Book.{Book}
-use Rattle.repro_core.specs.Moments.{lock_path}
-use Rattle.repro_core.specs.Sound.{IsSound, IsImage, IsMetSince}
-use Rattle.repro_core.specs.declared.stage.Stage.{Stage}
-use Rattle.dvc_cli.specs.Plan.{plan_of}
-use Rattle.dvc_cli.specs.Repro.{InCommand}
+use Rattle.world_api.specs.Layout.{lock_path}
+use Rattle.repro_laws.specs.Book.{Book}
+use Rattle.repro_laws.specs.Sound.{IsSound, IsImage, IsMetSince}
+use Rattle.repro_laws.specs.declared.stage.Stage.{Stage}
+use Rattle.dvc_cli.specs.Workspace.{stages_in}
+use Rattle.dvc_cli.specs.Command.{InCommand}
 
 -- nothing is remembered, and all that stands there is on the disk
 pub record IsFresh (n : Moment) : Type 0 where
@@ -31,7 +31,7 @@ pub record IsStop (m n : Moment) : Type 0 where
 
 -- what a command read and wrote, from its start to its end, is in the book: no two contents met share an MD5
 pub record IsMet (book : Book) (m end : Moment) : Type 0 where
-  pub met : (stages : List Stage) → plan_of m.tree ≡ Some stages → IsMetSince book stages m end
+  pub met : (stages : List Stage) → stages_in m.tree ≡ Some stages → IsMetSince book stages m end
 
 pub data IsReached (book : Book) (effect : Effect) : Moment → Type 0 where
   fresh : (n : Moment) → IsFresh n → IsReached book effect n

@@ -9,7 +9,7 @@ use crate::lines::{Fields, read_lines};
 use crate::print::print_forms;
 use dvc_base::{NoMemory, Rel, Text, Texts};
 use lock_files::{is_command, is_name};
-use repro_core::{Stage, Stages, in_order};
+use repro_laws::{Stage, Stages, in_order};
 use std::alloc::Global;
 use std::collections::BTreeSet;
 
@@ -144,115 +144,5 @@ fn text_of(alloc: Global, bytes: &[u8]) -> Result<Text, NoMemory>
     match str::from_utf8(bytes) {
         Ok(text) => Text::of(alloc, text),
         Err(_) => unreachable!(),
-    }
-}
-
-#[cfg(test)]
-mod tests {
-    use super::*;
-    use std::alloc::AllocError;
-    use std::test::Fail;
-
-    const TWO_STAGES: &[u8] =
-        b"stages:\n  by_name:\n    cmd: sort 2 names\n    deps:\n    - names\n    - more\n    outs:\n    - sorted\n    - counted\n  last:\n    cmd: tail sorted\n    deps:\n    - sorted\n    outs:\n    - end_1\n";
-
-    const ONE_NAME: &[u8] =
-        b"stages:\n  s:\n    cmd: sort a\n    deps:\n    - a\n    outs:\n    - b\n  s:\n    cmd: sort c\n    deps:\n    - c\n    outs:\n    - d\n";
-
-    const TWICE: &[u8] =
-        b"stages:\n  s:\n    cmd: sort a\n    deps:\n    - a\n    - b\n    - a\n    outs:\n    - c\n";
-
-    const OUTS_FIRST: &[u8] =
-        b"stages:\n  s:\n    cmd: sort a\n    outs:\n    - b\n    deps:\n    - a\n";
-
-    const CRLF: &[u8] =
-        b"stages:\r\n  s:\r\n    cmd: sort a\r\n    deps:\r\n    - a\r\n    outs:\r\n    - b\r\n";
-
-    const NOT_UTF8: &[u8] =
-        b"stages:\n  s:\n    cmd: sort \xff\n    deps:\n    - a\n    outs:\n    - b\n";
-
-    // The lines of one stage with these fields, whatever they are.
-    fn lines(
-        alloc: Global,
-        name: &str,
-        command: &str,
-        dep: &str,
-        out: &str,
-    ) -> Result<String, AllocError> {
-        format!(in alloc;
-            "stages:\n  {name}:\n    cmd: {command}\n    deps:\n    - {dep}\n    outs:\n    - {out}\n"
-        )
-    }
-
-    // The two texts of a list.
-    fn pair(texts: &Texts) -> Option<(&str, &str)> {
-        match texts.as_slice() {
-            [first, second] => Some((first.as_str(), second.as_str())),
-            _ => None,
-        }
-    }
-
-    // The two stages of a list.
-    fn two(stages: &Stages) -> Option<(&Stage, &Stage)> {
-        match stages.as_slice() {
-            [first, second] => Some((first, second)),
-            _ => None,
-        }
-    }
-
-    #[test]
-    fn stages_are_read_with_outputs_in_order(rt: HostRuntime) -> Result<(), Fail> {
-        let alloc = rt.alloc();
-        let stages = read_form(alloc, TWO_STAGES)?.ok_or("no stages")?;
-        let (first, second) = two(&stages).ok_or("not two stages")?;
-        assert_eq!(rt; first.name.as_str(), "by_name");
-        assert_eq!(rt; pair(&first.deps), Some(("names", "more")));
-        assert_eq!(rt; pair(&first.outs), Some(("counted", "sorted")));
-        assert_eq!(rt; first.dir.text(), ".");
-        assert_eq!(rt; second.name.as_str(), "last");
-        assert!(rt; pair(&second.deps).is_none());
-        Ok(())
-    }
-
-    #[test]
-    fn other_fields_are_not_read(rt: HostRuntime) -> Result<(), Fail> {
-        let alloc = rt.alloc();
-        let table = [
-            ("a tab", "s", "sort\ta", "a", "b"),
-            ("two spaces", "s", "sort  a", "a", "b"),
-            ("one word", "s", "sort", "a", "b"),
-            ("a digit first", "s", "7z a", "a", "b"),
-            ("null as a name", "null", "sort a", "a", "b"),
-            ("a dot in a path", "s", "sort a", "a", "b.c"),
-        ];
-        for (why, name, command, dep, out) in table {
-            let text = lines(alloc, name, command, dep, out)?;
-            assert!(rt; read_form(alloc, text.as_bytes())?.is_none(), "{why}");
-        }
-        Ok(())
-    }
-
-    #[test]
-    fn other_texts_are_not_read(rt: HostRuntime) -> Result<(), Fail> {
-        let alloc = rt.alloc();
-        let whole = lines(alloc, "s", "sort a", "a", "b")?;
-        let whole = whole.as_bytes();
-        assert!(rt; read_form(alloc, whole)?.is_some());
-        let lines = whole.strip_suffix(b"    - b\n").ok_or("no last line")?;
-        let open = whole.strip_suffix(b"\n").ok_or("no line feed")?;
-        let table = [
-            ("empty", b"".as_slice()),
-            ("without the last line", lines),
-            ("without the last line feed", open),
-            ("CRLF", CRLF),
-            ("two stages of one name", ONE_NAME),
-            ("a path that stands twice", TWICE),
-            ("outputs first", OUTS_FIRST),
-            ("not UTF-8", NOT_UTF8),
-        ];
-        for (why, text) in table {
-            assert!(rt; read_form(alloc, text)?.is_none(), "{why}");
-        }
-        Ok(())
     }
 }

@@ -1,19 +1,19 @@
 // Whether stages can have their turns in the order in which they are written.
 ghost use Rattle.std.specs.Prelude.{◌≡◌, ℕ, ◌||◌, List, IfOk, IsTrue};
 ghost use Rattle.std.specs.List.{AllByRecursion, list_any};
-ghost use Rattle.repro_core.specs.Lock.{is_among};
+ghost use Rattle.repro_laws.specs.Lock.{is_among};
 ghost use Rattle.dvc_cli.specs.Graph.{IsNamed, has, are_fresh};
-ghost use Rattle.dvc_cli.specs.Plan.{is_graph};
+ghost use Rattle.dvc_cli.specs.Workspace.{is_in_order_as_written};
 
 use dvc_base::{NoMemory, Text};
-use repro_core::Stage;
+use repro_laws::Stage;
 use std::alloc::Global;
 use std::collections::HashSet;
 
 /// Whether no output is named twice, and no dependency is an output of its own stage or of a later one.
-pub(crate) fn is_graph(alloc: Global, stages: &[Stage]) -> Result<bool, NoMemory>
+pub(crate) fn is_in_order_as_written(alloc: Global, stages: &[Stage]) -> Result<bool, NoMemory>
     requires { AllByRecursion IsNamed stages.now }
-    ensures by_graph { IfOk result (λ answer. answer ≡ is_graph stages.now) }
+    ensures by_graph { IfOk result (λ answer. answer ≡ is_in_order_as_written stages.now) }
 {
     // The outputs of the stages so far, from the last one on.
     let mut later = HashSet::new(alloc);

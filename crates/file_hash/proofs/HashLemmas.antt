@@ -1,19 +1,14 @@
--- The digits of a digest, and what a hasher holds of a file.
+-- The digits of a digest.
 use Rattle.std.proofs.Common.{◌≡◌, ℕ, ◌+◌, ◌*◌, ◌/◌, ◌%◌, ◌<◌, true, List, [], ◌∷◌, ◌++◌, length, take, drop, arith, ap, sym, ◌∙◌, refl, slice_index, subst, Option, Some, None, length-drop, suc, zero, w32}
 use Rattle.std.specs.List.{All, list_all}
 use Rattle.std.proofs.lemmas.List.Sums.{AllPass-from_list_all}
 use Rattle.std.proofs.lemmas.List.Elements.{All-head, All-tail, All-nil, All-cons, All-append}
-use Rattle.std.proofs.Math.Seq.{take-add}
-use Rattle.std.proofs.lemmas.List.{take_at, length-take-le}
-use Rattle.md5.specs.Md5.{md5, Holds, digest_bytes, hash_after, padded_message}
+use Rattle.md5.specs.Md5.{md5, digest_bytes, hash_after, padded_message}
 use Rattle.std.specs.Int.{to_le_bytes}
 use Rattle.md5.proofs.StandardFacts.{length-md5}
-use Rattle.md5.specs.declared.Md5.{Md5}
 use Rattle.hex.specs.Hex.{lower_digits, encode_with, encode_lower}
 use Rattle.hex.proofs.HexLemmas.{length-encode_with}
-use Rattle.world_api.specs.Tree.{Item, folder, file}
-use Rattle.world_api.specs.Calls.{ReadsFrom, IsRead}
-use Rattle.file_hash.specs.Naming.{name_of_bytes, Takes}
+use Rattle.file_hash.specs.Naming.{name_of_bytes}
 use Rattle.dvc_base.specs.Name.{is_digit, are_digits}
 
 -- each of the sixteen digits is one
@@ -59,19 +54,3 @@ md5-bytes m = digest-bytes (hash_after (padded_message m) (length (padded_messag
 -- the digits of a file's name are lower-case hexadecimal digits
 pub name_of_bytes-digits : (bytes : List ℕ) → are_digits (name_of_bytes bytes).digits ≡ true
 name_of_bytes-digits bytes = encode_lower-digits (md5 bytes) (length-md5 bytes) (md5-bytes bytes)
-
--- ---- a hasher and a file
-
-read_on : (bytes old new : List ℕ) (from count : ℕ) → IsRead bytes from old new count → take from bytes ++ take count new ≡ take (from + count) bytes
-read_on bytes old new from count r =
-    let there = r.there in
-    let more : length (take count (drop from bytes)) ≡ count = length-take-le count (drop from bytes) (omega (arith, length-drop from bytes)) in
-    let read : take count new ≡ take count (drop from bytes) = ap (take count) r.put ∙ take_at (take count (drop from bytes)) (drop count old) count more in
-    ap (λ (x : List ℕ). take from bytes ++ x) read ∙ sym (take-add from count bytes)
-
--- a hasher that is given the bytes that were read
-pub takes : (item : Option Item) (from : ℕ) (old new : List ℕ) (count : ℕ) (a b : Md5) → ReadsFrom item from old new count → ((m : List ℕ) → Holds a m → Holds b (m ++ take count new)) → Takes item from (length old) a b count
-takes None from old new count a b r u = tt
-takes (Some folder) from old new count a b r u = tt
-takes (Some (file bytes)) from old new count a b r u =
-    (r.there, r.none, λ h. subst (Holds b) (read_on bytes old new from count r) (u (take from bytes) h))

@@ -1,39 +1,31 @@
 // Naming a file: its bytes are hashed as they are read, a piece at a time.
-ghost use Rattle.std.specs.Prelude.{◌≡◌, ◌≤◌, length, IsTrue, IfOk, IfErr, IsErrOf, Some, false};
-ghost use Rattle.md5.specs.Md5.{md5};
+ghost use Rattle.std.specs.Prelude.{◌≡◌, ℕ, List, IsTrue, IfOk, IfErr, IsErrOf, Some, false};
+ghost use Rattle.md5.specs.Md5.{md5, Holds};
 ghost use Rattle.hex.specs.Hex.{encode_lower};
-ghost use Rattle.world_api.specs.Tree.{item_at, value_at};
-ghost use Rattle.world_api.specs.Calls.{IsFileAt};
-ghost use Rattle.world_api.specs.History.{HasCause};
-ghost use Rattle.file_hash.specs.Naming.{named_of, naming_of, IsNaming, IsChange, IsTold, Takes, IsFront};
-ghost use Rattle.file_hash.specs.Cause.{IsCounted};
+ghost use Rattle.world_api.specs.Tree.{item_at, value_at, file};
+ghost use Rattle.world_api.specs.Outside.{tree_of, IsUntouched};
+ghost use Rattle.world_api.specs.History.{IsCaused};
+ghost use Rattle.file_bytes.specs.Reading.{IsTold, HasTaken, IsChange};
+ghost use Rattle.file_bytes.specs.declared.fault.ReadFault.TheVariants.{Failed as Unread};
+ghost use Rattle.file_hash.specs.Naming.{named_of, naming_of, IsNaming, IsChangeAt, IsToldAs};
 ghost use Rattle.file_hash.specs.declared.fault.HashFault.TheVariants.{Failed as Blamed};
 
 use crate::{HashFault, Named};
-use dvc_base::{Failed, Name, Plain, Rel};
+use dvc_base::{Name, NoMemory, Plain, Rel};
+use file_bytes::{ReadFault, TakesPieces, read_file};
 use hex::encode_to_slice;
 use md5::{Digest, Md5};
 use std::alloc::Global;
-use world_api::{Files, Kind};
-
-// How many bytes are asked for at once.
-const PIECE: usize = 65_536;
-
-// The digest of the first bytes of a file, and how many these are.
-#[derive(Clone, Copy)]
-struct Front {
-    count: u64,
-    digest: [u8; 16],
-}
+use world_api::{Kind, ReadFiles};
 
 /// The name of the file at a path. It is read to the size that is told, and at most one byte further.
-pub fn name_at<F: Files>(alloc: Global, files: &mut F, at: &Rel) -> Result<Named, HashFault>
+pub fn name_at<F: ReadFiles>(alloc: Global, files: &mut F, at: &Rel) -> Result<Named, HashFault>
     ensures named { IsTrue F.tells → IfOk result (λ named.
-        named_of (value_at (F.history files.old).present.tree at.now) ≡ Some named) }
-    ensures answer { IsTrue F.tells → IsNaming result (naming_of (item_at (F.history files.old).present.tree at.now)) }
-    ensures unchanged { IsTrue F.tells → F.history files.new ≡ F.history files.old }
-    ensures changed { IfErr result (IsChange at.now) }
-    ensures cause { IsCounted (F.faults files.old) (F.faults files.new) (IsErrOf result Blamed) }
+        named_of (value_at (tree_of (F.history files.old)) at.now) ≡ Some named) }
+    ensures answer { IsTrue F.tells → IsNaming result (naming_of (item_at (tree_of (F.history files.old)) at.now)) }
+    ensures unchanged { IsUntouched F.tells (F.history files.old) (F.history files.new) }
+    ensures changed { IfErr result (IsChangeAt F.tells at.now) }
+    ensures cause { IsCaused (F.faults files.old) (F.faults files.new) (IsErrOf result Blamed) }
 {
     match files.kind(at) {
         Ok(Kind::File { size }) => name_file(alloc, files, at, size),
@@ -44,35 +36,34 @@ pub fn name_at<F: Files>(alloc: Global, files: &mut F, at: &Rel) -> Result<Named
 }
 
 // The name of a file that was told to have this size.
-fn name_file<F: Files>(
+fn name_file<F: ReadFiles>(
     alloc: Global,
     files: &mut F,
     at: &Rel,
     size: u64,
 ) -> Result<Named, HashFault>
-    requires { IsTrue F.tells → IsTold (item_at (F.history files.old).present.tree at.now) size }
-    ensures answer { IsTrue F.tells → IsNaming result (naming_of (item_at (F.history files.old).present.tree at.now)) }
-    ensures unchanged { IsTrue F.tells → F.history files.new ≡ F.history files.old }
-    ensures changed { IfErr result (IsChange at.now) }
-    ensures cause { IsCounted (F.faults files.old) (F.faults files.new) (IsErrOf result Blamed) }
+    requires { IsTrue F.tells → IsTold (item_at (tree_of (F.history files.old)) at.now) size }
+    ensures answer { IsTrue F.tells → IsNaming result (naming_of (item_at (tree_of (F.history files.old)) at.now)) }
+    ensures sized { IfOk result (λ named. named.size ≡ size) }
+    ensures unchanged { IsUntouched F.tells (F.history files.old) (F.history files.new) }
+    ensures changed { IfErr result (IsChangeAt F.tells at.now) }
+    ensures told { IfErr result (IsToldAs size) }
+    ensures cause { IsCaused (F.faults files.old) (F.faults files.new) (IsErrOf result Blamed) }
 {
-    let Ok(front) = hash_front(files, at, size.saturating_add(1)) else {
-        return Err(HashFault::Failed);
-    };
-    if front.count != size {
-        let path = at.copy(alloc)?;
-        return Err(HashFault::Changed {
-            path,
-            told: size,
-            found: front.count,
-        });
+    match digest_of_file(files, at, size) {
+        Ok(digest) => Ok(Named {
+            name: name_of(&digest),
+            size,
+            nfiles: None,
+        }),
+        Err(ReadFault::Changed { told, found }) => Err(HashFault::Changed {
+            path: at.copy(alloc)?,
+            told,
+            found,
+        }),
+        Err(ReadFault::Failed) => Err(HashFault::Failed),
+        Err(ReadFault::NoMemory) => Err(HashFault::NoMemory),
     }
-    let name = name_of(&front.digest);
-    Ok(Named {
-        name,
-        size,
-        nfiles: None,
-    })
 }
 
 // The name of a file by the digest of its bytes.
@@ -84,45 +75,32 @@ fn name_of(digest: &[u8; 16]) -> Name
     Name { digits, dir: false }
 }
 
-// The digest of the first bytes of a file: all, or as many as are wanted at the most.
-fn hash_front<F: Files>(files: &mut F, at: &Rel, most: u64) -> Result<Front, Failed>
-    requires { IsTrue F.tells → IsFileAt (F.history files.old).present.tree at.now }
-    ensures read { IsTrue F.tells → IfOk result (λ front.
-        IsFront (item_at (F.history files.old).present.tree at.now) most front.count front.digest) }
-    ensures unchanged { IsTrue F.tells → F.history files.new ≡ F.history files.old }
-    ensures cause { HasCause (F.faults files.old) (F.faults files.new) result }
+// The digest of a file that was told to have this size.
+fn digest_of_file<F: ReadFiles>(files: &mut F, at: &Rel, size: u64) -> Result<[u8; 16], ReadFault>
+    requires { IsTrue F.tells → IsTold (item_at (tree_of (F.history files.old)) at.now) size }
+    ensures read { IsTrue F.tells → IfOk result (λ digest. (bytes : List ℕ) →
+        item_at (tree_of (F.history files.old)) at.now ≡ Some (file bytes) → digest ≡ md5 bytes) }
+    ensures taken { IfOk result (λ digest. HasTaken (λ bytes. digest ≡ md5 bytes) size) }
+    ensures changed { IfErr result (IsChange F.tells size) }
+    ensures unchanged { IsUntouched F.tells (F.history files.old) (F.history files.new) }
+    ensures cause { IsCaused (F.faults files.old) (F.faults files.new) (IsErrOf result Unread) }
 {
-    let mut buffer = [0u8; PIECE];
-    let mut hasher = Md5::new();
-    let mut count = 0;
-    while count < most {
-        let wanted = (most - count).min(PIECE as u64) as usize;
-        let more = hash_piece(files, at, count, &mut buffer[..wanted], &mut hasher)?;
-        if more == 0 {
-            break;
-        }
-        count += more;
-    }
-    let digest = hasher.finalize();
-    Ok(Front { count, digest })
+    let mut hasher = Hasher { inner: Md5::new() };
+    read_file(files, at, size, &mut hasher)?;
+    Ok(hasher.inner.finalize())
 }
 
-// Hashes the bytes of the file that follow from an offset on, and answers how many.
-fn hash_piece<F: Files>(
-    files: &mut F,
-    at: &Rel,
-    from: u64,
-    piece: &mut [u8],
-    hasher: &mut Md5,
-) -> Result<u64, Failed>
-    requires { IsTrue F.tells → IsFileAt (F.history files.old).present.tree at.now }
-    ensures within { IfOk result (λ count. count ≤ length piece.old) }
-    ensures taken { IsTrue F.tells → IfOk result (λ count.
-        Takes (item_at (F.history files.old).present.tree at.now) from (length piece.old) hasher.old hasher.new count) }
-    ensures unchanged { IsTrue F.tells → F.history files.new ≡ F.history files.old }
-    ensures cause { HasCause (F.faults files.old) (F.faults files.new) result }
-{
-    let count = files.read_at(at, from, piece)?;
-    hasher.update(&piece[..count]);
-    Ok(count as u64)
+// Hashes the pieces that it takes.
+#[derive(Drop)]
+struct Hasher {
+    inner: Md5,
+}
+
+impl TakesPieces for Hasher {
+    ghost holds = { λ hasher bytes. Holds hasher.inner bytes };
+
+    fn take(&mut self, piece: &[u8]) -> Result<(), NoMemory> {
+        self.inner.update(piece);
+        Ok(())
+    }
 }

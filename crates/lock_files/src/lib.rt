@@ -14,6 +14,3 @@ pub use entry::{Entry, PathEntries, PathEntry};
 pub use print::print_lock;
 pub use read::{LockFault, read_lock};
 pub use word::{is_command, is_name};
-
-#[cfg(test)]
-mod tests;

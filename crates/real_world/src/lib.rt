@@ -1,7 +1,7 @@
 //! The traits of the outside over real files, `/bin/sh -c` and the program's own two streams.
 //!
 //! What a file holds, what a command does and in which order the disk keeps what was written can't be
-//! proved, since no clause of std speaks of it: so these worlds tell nothing, and tests over real files
+//! proved, since no clause of std speaks of it: so these worlds tell nothing, and the tests of `world_suite`
 //! stand in. What is proved is safety, that each failure is counted once and nothing else is, and what
 //! is made of each answer of std.
 #![tactic(auto)]
@@ -10,14 +10,12 @@ mod commands;
 mod failures;
 mod files;
 mod findings;
+mod folder;
 mod lanes;
-mod places;
 mod programs;
+mod reading;
 mod sink;
 mod world;
 
 pub use sink::RealSink;
 pub use world::RealWorld;
-
-#[cfg(test)]
-mod tests;

@@ -3,6 +3,7 @@ ghost use Rattle.std.specs.Prelude.{◌≡◌, false, IfOk};
 ghost use Rattle.real_world.specs.Told.{faults_of, nothing_told};
 
 use crate::failures::Failures;
+use crate::folder::Folder;
 use dvc_base::NoMemory;
 use std::alloc::Global;
 use std::process::Processes;
@@ -11,10 +12,8 @@ use world_api::{Ground, World};
 
 /// The files below a folder, and the programs that run there. It tells nothing of what they hold.
 #[derive(Drop)]
-pub struct RealWorld<R> {
-    pub(crate) rt: R,
-    pub(crate) alloc: Global,
-    pub(crate) root: String,
+pub struct RealWorld<R: Runtime> {
+    pub(crate) folder: Folder<R>,
     pub(crate) failures: Failures,
 }
 
@@ -23,11 +22,8 @@ impl<R: Runtime + Processes + Send> RealWorld<R> {
     pub fn new(rt: R, alloc: Global, root: &str) -> Result<RealWorld<R>, NoMemory>
         ensures fresh { IfOk result (λ world. (faults_of world.failures).count ≡ 0) }
     {
-        let root = String::from_str(alloc, root)?;
         Ok(RealWorld {
-            rt,
-            alloc,
-            root,
+            folder: Folder::new(rt, alloc, root)?,
             failures: Failures::none(),
         })
     }

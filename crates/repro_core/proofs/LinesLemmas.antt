@@ -1,7 +1,7 @@
 -- Laws of the lines of a stage's commands.
-use Rattle.std.proofs.Common.{◌≡◌, ℕ, ◌+◌, ◌<◌, List, [], ◌∷◌, ◌++◌, length, take, drop, get_or, codes, refl, sym, ap, ◌∙◌, append_assoc}
-use Rattle.std.proofs.lemmas.List.{append-nil, take_more, drop_more, take-append-drop}
-use Rattle.repro_core.specs.Due.{command_lines}
+use Rattle.std.proofs.Common.{◌≡◌, ℕ, ◌+◌, ◌<◌, List, [], ◌∷◌, ◌++◌, length, take, get_or, codes, refl, sym, ap, ◌∙◌, append_assoc}
+use Rattle.std.proofs.lemmas.List.{append-nil, take_more}
+use Rattle.repro_laws.specs.Due.{command_lines}
 
 abbrev pub line_of : List ℕ → List ℕ
 line_of command = (codes "> " ++ command) ++ codes "\n"
@@ -18,8 +18,3 @@ command_lines-more all i command l e =
 pub command_lines-taken : (all : List (List ℕ)) (i : ℕ) (command old mid new : List ℕ) → i < length all → command ≡ get_or all i command → mid ≡ old ++ command_lines (take i all) → new ≡ mid ++ line_of command → new ≡ old ++ command_lines (take (i + 1) all)
 command_lines-taken all i command old mid new l e m n =
     n ∙ ap (λ (x : List ℕ). x ++ line_of command) m ∙ append_assoc old (command_lines (take i all)) (line_of command) ∙ ap (λ (x : List ℕ). old ++ x) (sym (command_lines-more all i command l e))
-
--- the lines of all commands, cut around one of them
-pub command_lines-cut : (all : List (List ℕ)) (i : ℕ) (command : List ℕ) → i < length all → command ≡ get_or all i command → command_lines all ≡ command_lines (take i all) ++ (line_of command ++ command_lines (drop (i + 1) all))
-command_lines-cut all i command l e =
-    ap command_lines (sym (take-append-drop i all)) ∙ command_lines-append (take i all) (drop i all) ∙ ap (λ (rest : List (List ℕ)). command_lines (take i all) ++ command_lines rest) (drop_more all i command l ∙ ap (λ (x : List ℕ). x ∷ drop (i + 1) all) (sym e))

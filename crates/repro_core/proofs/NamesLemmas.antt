@@ -3,24 +3,30 @@
 --     named_stops     a path has none
 --     sized_more      one more size fits into 64 bits
 --     no_gap, same_names     files have names, and the same values have the same
+--     deps_named, deps_gap   dependencies that have names are files, and of others one is refused
 use Rattle.std.proofs.Common.{◌≡◌, ◌≢◌, ℕ, ◌+◌, ◌<◌, ◌^◌, List, [], ◌∷◌, ◌++◌, length, take, drop, get_or, map, refl, sym, ap, ◌∙◌, Option, Some, None}
 use Rattle.std.proofs.lemmas.Option.{same_Some}
 use Rattle.std.proofs.lemmas.List.{take_more, drop_more, take-append-drop, get_or-map}
 use Rattle.std.specs.List.{AllByRecursion}
 use Rattle.dvc_base.specs.Path.{Path}
-use Rattle.world_api.specs.Tree.{Tree, Value, content, value_at}
+use Rattle.world_api.specs.Tree.{Tree, Item, folder, file, Value, content, item_at, value_of, value_at}
 use Rattle.world_api.specs.Effect.{path_from}
 use Rattle.world_api.specs.Calls.{IsFileAt}
 use Rattle.world_api.proofs.ValueLemmas.{value_of_file}
 use Rattle.file_hash.specs.Naming.{named_of}
 use Rattle.file_hash.specs.declared.named.Named.{Named}
 use Rattle.lock_files.specs.declared.entry.PathEntry.{PathEntry}
-use Rattle.repro_core.specs.Entries.{named_path, in_front, named_paths}
-use Rattle.repro_core.specs.Moments.{AreSized}
+use Rattle.repro_laws.specs.Stage.{dep_paths, in_order}
+use Rattle.repro_laws.specs.Due.{refused_dep, dep_fault}
+use Rattle.repro_laws.specs.declared.stage.Stage.{Stage}
+use Rattle.repro_laws.specs.Entries.{named_path, in_front, named_paths}
+use Rattle.repro_laws.specs.Moments.{AreSized}
 use Rattle.repro_core.specs.Steps.{IsFound}
 use Rattle.repro_core.specs.declared.names.Found.{Found}
 use Rattle.repro_core.specs.declared.names.Found.TheVariants.{Names, Gap}
-use Rattle.repro_core.proofs.EntryLaw.{paths_push, paths_stop}
+use Rattle.repro_laws.proofs.AnewLemmas.{files_of_deps}
+use Rattle.repro_laws.proofs.OrderLemmas.{all_in_order, all_as_written}
+use Rattle.repro_laws.proofs.EntryLaw.{paths_push, paths_stop}
 
 push_by : (t : Tree) (dir : Path) (texts : List (List ℕ)) (text : List ℕ) (entries : List PathEntry) (p : PathEntry) (o : Option Named) → named_paths t dir texts ≡ Some entries → named_of (value_at t (path_from dir text)) ≡ o → named_path text o ≡ Some p → named_paths t dir (texts ++ text ∷ []) ≡ Some (entries ++ p ∷ [])
 push_by t dir texts text entries p None so_far is e = absurd (cc)
@@ -87,3 +93,35 @@ same_names t u dir [] same = refl
 same_names t u dir (text ∷ texts) same =
     let p = path_from dir text in
     ap (λ (v : Value). in_front (named_path text (named_of v)) (named_paths u dir texts)) same.0 ∙ ap (in_front (named_path text (named_of (value_at t p)))) (same_names t u dir texts same.1)
+
+-- ---- paths that have names
+
+file_of_name : (t : Tree) (text : List ℕ) (p : Path) (o : Option Item) → named_path text (named_of (value_of t p o)) ≢ None → (bytes : List ℕ) × (o ≡ Some (file bytes))
+file_of_name t text p None some = absurd (some refl)
+file_of_name t text p (Some folder) some = absurd (some refl)
+file_of_name t text p (Some (file bytes)) some = (bytes, refl)
+
+both_named : (first : Option PathEntry) (rest : Option (List PathEntry)) (entries : List PathEntry) → in_front first rest ≡ Some entries → (first ≢ None) × ((more : List PathEntry) × (rest ≡ Some more))
+both_named None rest entries e = absurd (cc)
+both_named (Some entry) None entries e = absurd (cc)
+both_named (Some entry) (Some more) entries e = (λ none. absurd (cc), (more, refl))
+
+files_named : (t : Tree) (dir : Path) (texts : List (List ℕ)) (entries : List PathEntry) → named_paths t dir texts ≡ Some entries → AllByRecursion (IsFileAt t) (map (path_from dir) texts)
+files_named t dir [] entries e = tt
+files_named t dir (text ∷ texts) entries e =
+    let p = path_from dir text in
+    let parts = both_named (named_path text (named_of (value_at t p))) (named_paths t dir texts) entries e in
+    (file_of_name t text p (item_at t p) parts.0, files_named t dir texts parts.1.0 parts.1.1)
+
+none_refused : (name : List ℕ) (t : Tree) (ps : List Path) → AllByRecursion (IsFileAt t) ps → dep_fault name t ps ≡ None
+none_refused name t [] files = refl
+none_refused name t (p ∷ ps) files =
+    ap (λ (o : Option Item). refused_dep name o p (dep_fault name t ps)) files.0.1 ∙ none_refused name t ps files.1
+
+pub deps_named : (s : Stage) (t : Tree) (entries : List PathEntry) → named_paths t s.dir (in_order s.deps) ≡ Some entries → dep_fault s.name t (dep_paths s) ≡ None
+deps_named s t entries named =
+    none_refused s.name t (dep_paths s) (all_as_written (path_from s.dir) (IsFileAt t) s.deps (files_named t s.dir (in_order s.deps) entries named))
+
+pub deps_gap : (s : Stage) (t : Tree) → named_paths t s.dir (in_order s.deps) ≡ None → dep_fault s.name t (dep_paths s) ≡ None → ⊥
+deps_gap s t gap none =
+    all_named t s.dir (in_order s.deps) (all_in_order (path_from s.dir) (IsFileAt t) s.deps (files_of_deps s.name t (dep_paths s) none)) gap

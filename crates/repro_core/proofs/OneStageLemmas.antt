@@ -5,11 +5,15 @@
 --     answer_run, ran_run               a turn whose run has ended
 --     report_taken                      the lines that were taken
 --     moments_same                      a turn that has changed nothing so far
---     turn_of_run, code_of_run          what an answer can be
-use Rattle.std.proofs.Common.{◌≡◌, ℕ, Bool, cond, List, [], ◌∷◌, ◌++◌, refl, sym, ap, subst, ◌∙◌, Option, Some, None, is_some, IfSome}
+use Rattle.std.proofs.Common.{◌≡◌, ◌⊎◌, ℕ, Bool, true, false, cond, List, [], ◌∷◌, ◌++◌, refl, sym, ap, subst, ◌∙◌, inl, inr, Option, Some, None, is_some, IfSome, IsTrue}
+use Rattle.std.proofs.lemmas.Bool.{false≢true}
 use Rattle.std.proofs.lemmas.List.{append-nil}
 use Rattle.dvc_base.specs.declared.fault.Fault.{Fault}
-use Rattle.dvc_base.specs.declared.fault.Fault.TheVariants.{NoMemory, Changed, CommandFailed, WorldFault, OutFault, NotBuilt, MissingOutput}
+use Rattle.dvc_base.specs.Fault.{kind_of, MayBe, is_free}
+use Rattle.dvc_base.specs.declared.fault.FaultKind.{FaultKind}
+use Rattle.dvc_base.specs.declared.fault.FaultKind.TheVariants as k
+use Rattle.repro_core.specs.Steps.{put_kinds}
+use Rattle.repro_core.proofs.KindLemmas.{any_more}
 use Rattle.world_api.specs.Tree.{Tree}
 use Rattle.world_api.specs.Effect.{Effect, invocation_of}
 use Rattle.world_api.specs.History.{History, Passes}
@@ -17,25 +21,25 @@ use Rattle.world_api.specs.declared.job.Job.{Job}
 use Rattle.world_api.proofs.HistoryLemmas.{passes_same}
 use Rattle.lock_files.specs.declared.entry.Entry.{Entry}
 use Rattle.lock_files.specs.Book.{Lock, entry_of}
-use Rattle.repro_core.specs.Stage.{job_of, dep_paths, IsReady}
-use Rattle.repro_core.specs.Due.{dep_fault, outcome_fault, first_fault, following, lines_of, report, jobs_of_choice, jobs}
-use Rattle.repro_core.specs.Entries.{present_entry}
-use Rattle.repro_core.specs.Choices.{choice_by, choice_of, tree_next, due, turn_fault, fault_of}
-use Rattle.repro_core.specs.Answer.{IsAnswer, Gains, IsCode, IsTurnFault}
-use Rattle.repro_core.specs.Headline.{IsKept}
-use Rattle.repro_core.specs.Moments.{is_record, InTurns}
-use Rattle.repro_core.specs.Steps.{IsRunFault}
-use Rattle.repro_core.specs.declared.stage.Stage.{Stage}
-use Rattle.repro_core.specs.declared.stage.Choice.{Choice}
-use Rattle.repro_core.specs.declared.stage.Choice.TheVariants.{Skip, Run}
-use Rattle.repro_core.proofs.DueLaw.{due_refused, fault_next}
-use Rattle.repro_core.proofs.GrowthLemmas.{front_none}
-use Rattle.repro_core.proofs.TurnLemmas.{anew_itself, if_some, if_some_at}
+use Rattle.repro_laws.specs.Stage.{job_of, dep_paths, IsReady}
+use Rattle.repro_laws.specs.Due.{dep_fault, outcome_fault, first_fault, following, lines_of, report, jobs_of_choice, jobs}
+use Rattle.repro_laws.specs.Entries.{present_entry}
+use Rattle.repro_laws.specs.Choices.{choice_by, choice_of, tree_next, due, turn_fault, fault_of}
+use Rattle.dvc_base.specs.Answer.{IsAnswer, GainsFront, GainsAs, Gains}
+use Rattle.repro_laws.specs.Headline.{IsKept}
+use Rattle.repro_laws.specs.Moments.{is_record, InTurns}
+use Rattle.repro_laws.specs.declared.stage.Stage.{Stage}
+use Rattle.repro_laws.specs.declared.stage.Choice.{Choice}
+use Rattle.repro_laws.specs.declared.stage.Choice.TheVariants.{Skip, Run}
+use Rattle.repro_laws.proofs.DueLaw.{due_refused, fault_next}
+use Rattle.repro_laws.proofs.GrowthLemmas.{front_none}
+use Rattle.repro_laws.proofs.GainLemmas.{answer_on}
+use Rattle.repro_laws.proofs.OptionLemmas.{if_some, if_some_at}
+use Rattle.repro_core.proofs.TurnLemmas.{anew_itself}
 use Rattle.repro_core.proofs.RunLemmas.{turns_of_anew}
 
-pub chosen_here : (s : Stage) (t : Tree) (lock : Lock) (present : Option Entry) (chosen c : Choice) → present_entry s t ≡ present → chosen ≡ choice_by (entry_of lock s.name) present → chosen ≡ c → choice_of s t lock ≡ c
-chosen_here s t lock present chosen c seen by is =
-    ap (choice_by (entry_of lock s.name)) seen ∙ sym by ∙ is
+pub chosen_here : (s : Stage) (t : Tree) (lock : Lock) (present : Option Entry) (chosen : Choice) → present_entry s t ≡ present → chosen ≡ choice_by (entry_of lock s.name) present → choice_of s t lock ≡ chosen
+chosen_here s t lock present chosen seen by = ap (choice_by (entry_of lock s.name)) seen ∙ sym by
 
 -- ---- what is due of one stage
 
@@ -78,21 +82,17 @@ turn_refused effect s Skip t f refused = refused
 turn_refused effect s Run t f refused =
     ap (λ (o : Option Fault). first_fault o (outcome_fault s (effect (invocation_of (job_of s) t)))) refused
 
-answer_from : (f : Fault) (a b : Option Fault) → (a ≡ Some f → b ≡ Some f) → IsAnswer (Some f) a → IsAnswer (Some f) b
-answer_from NoMemory a b from h = tt
-answer_from WorldFault a b from h = tt
-answer_from OutFault a b from h = tt
-answer_from f a b from h = from h
-
 pub answer_refused : (effect : Effect) (s : Stage) (t : Tree) (lock : Lock) (f : Fault) → IsAnswer (Some f) (dep_fault s.name t (dep_paths s)) → IsAnswer (Some f) (fault_of effect (s ∷ []) t lock)
 answer_refused effect s t lock f h =
-    answer_from f (dep_fault s.name t (dep_paths s)) (fault_of effect (s ∷ []) t lock) (λ e. fault_next effect s [] t lock f (turn_refused effect s (choice_of s t lock) t f e)) h
+    answer_on f (dep_fault s.name t (dep_paths s)) (fault_of effect (s ∷ []) t lock) (λ e. fault_next effect s [] t lock f (turn_refused effect s (choice_of s t lock) t f e)) h
+
+nothing_as : {A : Type 0} (free : Bool) (f : Fault) (a : Option Fault) (old whole : List A) → (a ≡ Some f → whole ≡ []) → IsTrue free ⊎ (a ≡ Some f) → GainsAs free old whole old
+nothing_as true f a old whole empty h = front_none old whole
+nothing_as false f a old whole empty (inl free) = absurd (false≢true free)
+nothing_as false f a old whole empty (inr e) = sym (append-nil old) ∙ ap (λ l. old ++ l) (sym (empty e))
 
 gains_nothing : {A : Type 0} (f : Fault) (a : Option Fault) (old whole : List A) → (a ≡ Some f → whole ≡ []) → IsAnswer (Some f) a → Gains (Some f) old whole old
-gains_nothing NoMemory a old whole empty h = front_none old whole
-gains_nothing WorldFault a old whole empty h = front_none old whole
-gains_nothing OutFault a old whole empty h = front_none old whole
-gains_nothing f a old whole empty h = sym (append-nil old) ∙ ap (λ l. old ++ l) (sym (empty h))
+gains_nothing f a old whole empty h = nothing_as (is_free f) f a old whole empty h
 
 pub gains_refused : {A : Type 0} (effect : Effect) (s : Stage) (t : Tree) (lock : Lock) (f : Fault) (of : List (Stage × Choice) → List A) (old : List A) → of [] ≡ [] → IsAnswer (Some f) (dep_fault s.name t (dep_paths s)) → Gains (Some f) old (of (due effect (s ∷ []) t lock)) old
 gains_refused effect s t lock f of old none h =
@@ -124,19 +124,17 @@ pub moments_same : (s : Stage) (lock : Lock) (start end : History) → IsReady s
 moments_same s lock start end ready kept same =
     if_some start.present.aside.fixed.effect (λ effect. Passes (InTurns effect (s ∷ []) lock start.present end.present) start end) (λ effect told. passes_same (InTurns effect (s ∷ []) lock start.present end.present) start end same (turns_of_anew effect s lock start.present end.present start.present ready kept (anew_itself s start.present)))
 
--- ---- what an answer can be
+-- ---- a put that has failed
 
-pub turn_of_run : (tells : Bool) (got : Option Fault) → IsRunFault tells got → IsTurnFault tells got
-turn_of_run tells None h = tt
-turn_of_run tells (Some NoMemory) h = tt
-turn_of_run tells (Some WorldFault) h = tt
-turn_of_run tells (Some (NotBuilt file)) h = tt
-turn_of_run tells (Some (MissingOutput stage path)) h = tt
-turn_of_run tells (Some (CommandFailed stage code)) h = tt
-turn_of_run tells (Some (Changed path told found)) h = h
-turn_of_run tells (Some _) h = absurd h
+abbrev free_kinds : List FaultKind
+free_kinds = k.NoMemory ∷ k.WorldFault ∷ k.OutFault ∷ []
 
-pub code_of_run : (tells : Bool) (got : Option Fault) → IsRunFault tells got → IsCode got
-code_of_run tells None h = tt
-code_of_run tells (Some (CommandFailed stage code)) h = h
-code_of_run tells (Some _) h = tt
+pub put_free : (f : Fault) → MayBe put_kinds (Some f) → IsTrue (is_free f)
+put_free f kind = any_more put_kinds free_kinds (kind_of f) refl kind
+
+free_as : {A : Type 0} (free : Bool) (old whole new : List A) → IsTrue free → GainsFront old whole new → GainsAs free old whole new
+free_as true old whole new is h = h
+free_as false old whole new is h = absurd (false≢true is)
+
+pub gains_free : {A : Type 0} (f : Fault) (old whole new : List A) → IsTrue (is_free f) → GainsFront old whole new → Gains (Some f) old whole new
+gains_free f old whole new is h = free_as (is_free f) old whole new is h

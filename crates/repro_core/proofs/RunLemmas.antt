@@ -3,111 +3,76 @@
 --     moments_of_anew, moments_of_record     each moment is one of a turn
 --     entry_of_run, runs_of_record     what the run has read and made stands once the lock is written
 --     stopped_early, left_of_record    the lock after a run that didn't end well
-use Rattle.std.proofs.Common.{◌≡◌, ◌≢◌, ◌⊎◌, ℕ, true, false, List, [], ◌∷◌, ◌++◌, map, codes, refl, sym, ap, subst, ◌∙◌, inl, inr, Some, None, IfSome, Result, Ok, Err, IfErr, OnOk}
-use Rattle.std.specs.Prelude.{bytes_eq}
-use Rattle.std.proofs.lemmas.Slice.Eq.{bytes_eq-Decides}
+use Rattle.std.proofs.Common.{◌≡◌, ◌≢◌, ◌⊎◌, ℕ, true, false, List, [], ◌∷◌, ◌++◌, map, refl, sym, ap, subst, ◌∙◌, inl, inr, Option, Some, None, IfSome, Result, Ok, Err, IfErr, OnOk}
 use Rattle.std.specs.List.{AllByRecursion, flat_map}
-use Rattle.std.proofs.lemmas.Bool.{false≢true, false_from_ne_true, both_ways, and_parts, and_from, or_parts, or_from, or_cases}
+use Rattle.std.proofs.lemmas.Bool.{false≢true, false_from_ne_true, both_ways, or_parts, or_from}
 use Rattle.std.proofs.lemmas.List.{append-nil}
 use Rattle.dvc_base.specs.Path.{Path, under}
 use Rattle.dvc_base.specs.declared.fault.Fault.{Fault}
 use Rattle.dvc_base.specs.declared.fault.Fault.TheVariants.{NoMemory, WorldFault}
-use Rattle.dvc_base.proofs.PathLemmas.{under-refl, under-overlap}
-use Rattle.world_api.specs.Tree.{Tree, Value, folder, file, IsTree, item_at, value_at}
-use Rattle.world_api.specs.Effect.{Effect, gives, path_from, invocation_of, is_in_any}
-use Rattle.world_api.specs.History.{Fixed, Moment, History, KeepsPaths, Passes}
-use Rattle.world_api.specs.Calls.{IsFileAt, parent}
-use Rattle.world_api.specs.Writes.{dvc_path, tmp_path, is_at, IsSameAt, IsSameUnder, IsMade, IsNewFile, IsNoFileAt, in_scratch, InWrite, IsNoScratch, CanWrite}
+use Rattle.dvc_base.proofs.PathLemmas.{under-refl, under-trans}
+use Rattle.world_api.specs.Tree.{Tree, Item, Value, folder, file, IsTree, item_at, value_at}
+use Rattle.world_api.specs.Effect.{Effect, Outcome, gives, path_from, invocation_of, is_in_any}
+use Rattle.world_api.specs.History.{Fixed, Moment, History, Passes}
+use Rattle.world_api.specs.Calls.{IsFileAt, HasFolders, parent}
+use Rattle.world_api.specs.Writes.{is_at, IsSameUnder, IsMade, IsNewFile, IsNoFileAt, in_scratch, InScratch, InWrite, CanWrite}
+use Rattle.world_api.specs.Layout.{dvc_path, tmp_path, lock_path}
 use Rattle.world_api.specs.declared.job.Job.{Job}
 use Rattle.world_api.proofs.HistoryLemmas.{keeps_paths_then, keeps_paths_in, passes_weaker, passes_on}
-use Rattle.world_api.proofs.LaneLemmas.{at_itself, apart_dvc}
+use Rattle.world_api.proofs.LaneLemmas.{apart_scratch}
 use Rattle.world_api.proofs.ValueLemmas.{value_same}
-use Rattle.world_api.proofs.WriteLemmas.{same_under_then, made_then_made}
+use Rattle.world_api.proofs.WriteLemmas.{same_under_then, made_then_made, scratch_folder, scratch_same}
+use Rattle.world_api.proofs.TreeLemmas.{under_parent}
 use Rattle.lock_files.specs.declared.entry.Entry.{Entry}
 use Rattle.lock_files.specs.Book.{Lock, set}
 use Rattle.lock_files.specs.Lock.{lock_text}
-use Rattle.repro_core.specs.Stage.{job_of, dep_paths, stage_outs, in_order, IsReady}
-use Rattle.repro_core.specs.Due.{dep_fault}
-use Rattle.repro_core.specs.Entries.{named_paths, IsPresent}
-use Rattle.repro_core.specs.Turns.{standing, Runs}
-use Rattle.repro_core.specs.Headline.{IsKept}
-use Rattle.repro_core.specs.declared.stage.Choice.TheVariants.{Run}
-use Rattle.repro_core.specs.Moments.{lock_path, is_record, in_turns, HaveRun, AreSized, IsEntryOf, IsRecorded, InTurns, IsNext, IsLeftLock}
-use Rattle.repro_core.specs.Steps.{InAnew, IsRecordFault}
-use Rattle.repro_core.specs.declared.stage.Stage.{Stage}
-use Rattle.repro_core.proofs.OrderLemmas.{all_in_order}
-use Rattle.repro_core.proofs.AnewLemmas.{each_both, each_from, files_of_deps, deps_outside, outs_apart, roots_apart}
-use Rattle.repro_core.proofs.StepLaw.{same_given}
-use Rattle.repro_core.proofs.EntryLaw.{present_all}
+use Rattle.repro_laws.specs.Stage.{job_of, dep_paths, stage_outs, in_order, IsReady}
+use Rattle.repro_laws.specs.Due.{dep_fault, refused_dep}
+use Rattle.repro_laws.specs.Entries.{named_paths, IsPresent}
+use Rattle.repro_laws.specs.Turns.{standing, Runs}
+use Rattle.repro_laws.specs.Headline.{IsKept}
+use Rattle.repro_laws.specs.declared.stage.Choice.TheVariants.{Run}
+use Rattle.repro_laws.specs.Moments.{is_record, in_turns, HaveRun, AreSized, IsEntryOf, IsRecorded, InTurns, IsNext, IsLeftLock}
+use Rattle.repro_core.specs.Steps.{in_anew, InAnew, record_kinds}
+use Rattle.dvc_base.specs.Answer.{fault_in, IsAnswer}
+use Rattle.dvc_base.specs.Fault.{MayBe}
+use Rattle.repro_laws.specs.declared.stage.Stage.{Stage}
+use Rattle.repro_laws.proofs.OrderLemmas.{all_in_order}
+use Rattle.repro_laws.proofs.AnewLemmas.{each_both, each_from, files_of_deps, deps_outside, outs_apart, roots_apart, job_outs}
+use Rattle.repro_laws.proofs.StepLaw.{same_given}
+use Rattle.repro_laws.proofs.EntryLaw.{present_all}
 use Rattle.repro_core.proofs.NamesLemmas.{same_names}
-use Rattle.repro_core.proofs.TurnLemmas.{grows_then, if_some, if_some_at}
+use Rattle.repro_core.proofs.ApartLemmas.{lock_no_root, lock_outside}
+use Rattle.repro_laws.proofs.RecordLemmas.{lock_no_scratch}
+use Rattle.repro_laws.proofs.OptionLemmas.{grows_then, if_some, if_some_at}
+use Rattle.repro_core.proofs.TurnLemmas.{none_ran}
+use Rattle.repro_core.proofs.KindLemmas.{record_free}
 
--- ---- the tool's own paths lie apart from the outputs
-
-own_apart : (p : Path) → is_record p ≡ false → IsNoScratch p
-own_apart p h =
-    let scratch = (or_parts (under lock_path p) (in_scratch p) h).1 in
-    let parts = or_parts (is_at dvc_path p) (under tmp_path p) scratch in
-    record {
-      no_dvc = λ e. both_ways (is_at dvc_path p) parts.0 (subst (λ (q : Path). is_at dvc_path q ≡ true) (sym e) (at_itself dvc_path));
-      no_tmp = parts.1;
-    }
-
-dvc_apart : (outs : List Path) → AllByRecursion (λ p. p ≢ []) outs → AllByRecursion (λ p. is_record p ≡ false) outs → is_in_any outs dvc_path ≡ false
-dvc_apart [] roots kept = refl
-dvc_apart (p ∷ ps) roots kept =
-    or_from (under p dvc_path) (is_in_any ps dvc_path) (apart_dvc p roots.0 (own_apart p kept.0)) (dvc_apart ps roots.1 kept.1)
-
--- what lies above a path of one part is the root or that path
-one_part : (c : List ℕ) (p : Path) → p ≢ [] → under p (c ∷ []) ≡ true → under (c ∷ []) p ≡ true
-one_part c [] root h = absurd (root refl)
-one_part c (d ∷ []) root h =
-    let same : d ≡ c = (bytes_eq-Decides d c).0 (and_parts (bytes_eq d c) true h).0 in
-    and_from (bytes_eq c d) true ((bytes_eq-Decides c d).1 (sym same)) refl
-one_part c (d ∷ e ∷ p) root h = absurd (false≢true (and_parts (bytes_eq d c) false h).1)
-
-lock_one_part : (p : Path) → p ≢ [] → under p lock_path ≡ true → under lock_path p ≡ true
-unfolding lock_path
-lock_one_part p root h = one_part (codes "dvc.lock") p root h
-
-lock_apart : (out p : Path) → out ≢ [] → is_record out ≡ false → under lock_path p ≡ true → under out p ≡ false
-lock_apart out p root kept below =
-    let outside = (or_parts (under lock_path out) (in_scratch out) kept).0 in
-    false_from_ne_true (under out p) (λ e. elim (or_cases (under out lock_path) (under lock_path out) (under-overlap out lock_path p e below)) [
-      | inl above ↦ both_ways (under lock_path out) outside (lock_one_part out root above)
-      | inr within ↦ both_ways (under lock_path out) outside within
-    ])
-
-lock_outside : (outs : List Path) (p : Path) → AllByRecursion (λ q. q ≢ []) outs → AllByRecursion (λ q. is_record q ≡ false) outs → under lock_path p ≡ true → is_in_any outs p ≡ false
-lock_outside [] p roots kept below = refl
-lock_outside (out ∷ outs) p roots kept below =
-    or_from (under out p) (is_in_any outs p) (lock_apart out p roots.0 kept.0 below) (lock_outside outs p roots.1 kept.1 below)
-
--- what has changed at the outputs alone has left the lock as it was
-pub same_lock : (s : Stage) (m n : Moment) → IsReady s → IsKept is_record s → KeepsPaths (is_in_any (stage_outs s)) m n → IsSameUnder lock_path m n
+-- the run of a stage leaves the lock as it was
+same_lock : (s : Stage) (m n : Moment) → IsReady s → IsKept is_record s → InAnew s m n → IsSameUnder lock_path m n
 same_lock s m n ready kept h =
     let roots = roots_apart (stage_outs s) (outs_apart s ready) in
-    record {
-      items = λ p u. h.items p (lock_outside (stage_outs s) p roots kept.outs u);
-      loose = λ p u. h.loose p (lock_outside (stage_outs s) p roots kept.outs u);
-    }
-
-same_dvc : (s : Stage) (m n : Moment) → IsReady s → IsKept is_record s → KeepsPaths (is_in_any (stage_outs s)) m n → IsSameAt dvc_path m n
-same_dvc s m n ready kept h =
-    let outside = dvc_apart (stage_outs s) (roots_apart (stage_outs s) (outs_apart s ready)) kept.outs in
-    record { item = h.items dvc_path outside; loose = h.loose dvc_path outside }
+    let out : (p : Path) → under lock_path p ≡ true → in_anew s p ≡ false =
+    λ p u. or_from (is_in_any (stage_outs s) p) (in_scratch p) (lock_outside (stage_outs s) p roots kept.outs u) (apart_scratch lock_path p lock_no_root lock_no_scratch u) in
+    record { items = λ p u. h.others.items p (out p u); loose = λ p u. h.others.loose p (out p u) }
 
 root_above_lock : (t : Tree) → item_at t (parent lock_path) ≡ Some folder
 unfolding lock_path
 root_above_lock t = refl
 
+folder_no_file : (bytes : List ℕ) → Some folder ≡ Some (file bytes) → ⊥
+folder_no_file bytes e = cc
+
+no_file_then : (k n : Moment) → IsMade dvc_path k n → IsNoFileAt k.tree dvc_path → IsNoFileAt n.tree dvc_path
+no_file_then k n (inl same) none bytes e = none bytes (sym same.item ∙ e)
+no_file_then k n (inr made) none bytes e = folder_no_file bytes (sym made.1.stands ∙ e)
+
 pub can_write : (s : Stage) (m n : Moment) → IsReady s → IsKept is_record s → InAnew s m n → CanWrite lock_path m.tree → CanWrite lock_path n.tree
 can_write s m n ready kept anew before =
-    let lock = (same_lock s m n ready kept anew.others).items lock_path (under-refl lock_path) in
-    let dvc = (same_dvc s m n ready kept anew.others).item in
+    let lock = (same_lock s m n ready kept anew).items lock_path (under-refl lock_path) in
     record {
       room = record { above = root_above_lock n.tree; no_folder = λ e. before.room.no_folder (sym lock ∙ e) };
-      no_file = λ bytes e. before.no_file bytes (sym dvc ∙ e);
+      no_file = no_file_then m n anew.dvc before.no_file;
     }
 
 -- ---- moments until the lock is written
@@ -119,15 +84,24 @@ turn_area s p out =
       parts.1,
     )
 
+-- what is none of the records is no lane
+no_scratch_at : (p : Path) → is_record p ≡ false → in_scratch p ≡ false
+no_scratch_at p own = (or_parts (under lock_path p) (in_scratch p) own).1
+
+anew_area : (s : Stage) (p : Path) → in_turns (s ∷ []) p ≡ false → in_anew s p ≡ false
+anew_area s p out =
+    let parts = turn_area s p out in
+    or_from (is_in_any (stage_outs s) p) (in_scratch p) parts.0 (no_scratch_at p parts.1)
+
 pub turns_of_anew : (effect : Effect) (s : Stage) (lock : Lock) (m end n : Moment) → IsReady s → IsKept is_record s → InAnew s m n → InTurns effect (s ∷ []) lock m end n
 turns_of_anew effect s lock m end n ready kept h =
     record {
-      others = keeps_paths_in (is_in_any (stage_outs s)) (in_turns (s ∷ [])) m n (λ p out. (turn_area s p out).0) h.others;
-      dvc = inl (same_dvc s m n ready kept h.others);
+      others = keeps_paths_in (in_anew s) (in_turns (s ∷ [])) m n (λ p out. anew_area s p out) h.others;
+      dvc = h.dvc;
       same_effect = h.effect;
       book = h.book;
       ran = h.ran;
-      remembered = inl (same_lock s m n ready kept h.others);
+      remembered = inl (same_lock s m n ready kept h);
     }
 
 pub moments_of_anew : (s : Stage) (lock : Lock) (start now : History) → IsReady s → IsKept is_record s → Passes (InAnew s start.present) start now → IfSome start.present.aside.fixed.effect (λ effect. Passes (InTurns effect (s ∷ []) lock start.present now.present) start now)
@@ -137,7 +111,7 @@ moments_of_anew s lock start now ready kept h =
 pub stopped_early : (s : Stage) (lock : Lock) (m n : Moment) (r : Result (Unit {0}) Fault) → IsReady s → IsKept is_record s → InAnew s m n → IfErr r (λ fault. IfSome m.aside.fixed.effect (λ effect. IsLeftLock effect s lock fault m n))
 stopped_early s lock m n (Ok done) ready kept h = tt
 stopped_early s lock m n (Err fault) ready kept h =
-    if_some m.aside.fixed.effect (λ effect. IsLeftLock effect s lock fault m n) (λ effect told. inl (same_lock s m n ready kept h.others))
+    if_some m.aside.fixed.effect (λ effect. IsLeftLock effect s lock fault m n) (λ effect told. inl (same_lock s m n ready kept h))
 
 -- ---- what stays of a tree at paths
 
@@ -178,7 +152,7 @@ pub record HasMade (s : Stage) (e : Entry) (m k : Moment) : Type 0 where
 deps_stay : (s : Stage) (e : Entry) (m k n : Moment) (bytes : List ℕ) → MayRun s m.tree → HasMade s e m k → InWrite lock_path bytes k n → AllByRecursion (λ p. item_at n.tree p ≡ item_at m.tree p) (dep_paths s)
 deps_stay s e m k n bytes may made write =
     each_then m.tree k.tree n.tree (dep_paths s)
-    (each_from (λ p. is_in_any (stage_outs s) p ≡ false) (λ p. item_at k.tree p ≡ item_at m.tree p) (dep_paths s) (λ p out. made.anew.others.items p out) (deps_outside (stage_outs s) (dep_paths s) may.ready.apart))
+    (each_both (λ p. is_in_any (stage_outs s) p ≡ false) (λ p. is_record p ≡ false) (λ p. item_at k.tree p ≡ item_at m.tree p) (dep_paths s) (λ p out own. made.anew.others.items p (or_from (is_in_any (stage_outs s) p) (in_scratch p) out (no_scratch_at p own))) (deps_outside (stage_outs s) (dep_paths s) may.ready.apart) may.kept.deps)
     (each_from (λ p. is_record p ≡ false) (λ p. item_at n.tree p ≡ item_at k.tree p) (dep_paths s) (λ p own. write.others.paths.items p own) may.kept.deps)
 
 outs_stay : (s : Stage) (e : Entry) (m k n : Moment) (bytes : List ℕ) → MayRun s m.tree → HasMade s e m k → InWrite lock_path bytes k n → AllByRecursion (λ p. value_at n.tree p ≡ value_at k.tree p) (stage_outs s)
@@ -226,7 +200,7 @@ runs_of effect s e lock after m k n bytes told may made write stands remembered 
       values = made_values effect s e m k n bytes told may made write;
       present = still_present s e m k n bytes may made write;
       lock = remembered;
-      others = λ p out own. write.others.paths.items p own ∙ made.anew.others.items p out;
+      others = λ p out own. write.others.paths.items p own ∙ made.anew.others.items p (or_from (is_in_any (stage_outs s) p) (in_scratch p) out (no_scratch_at p own));
       stands = stands;
     }
 
@@ -248,12 +222,12 @@ turns_of_write effect s e lock m k end n may made entry write =
     let anew = made.anew in
     let area = in_turns (s ∷ []) in
     record {
-      others = keeps_paths_then area m k n (keeps_paths_in (is_in_any (stage_outs s)) area m k (λ p out. (turn_area s p out).0) anew.others) (keeps_paths_in is_record area k n (λ p out. (turn_area s p out).1) write.others.paths);
-      dvc = made_then_made dvc_path m k n (inl (same_dvc s m k may.ready may.kept anew.others)) write.dvc;
+      others = keeps_paths_then area m k n (keeps_paths_in (in_anew s) area m k (λ p out. anew_area s p out) anew.others) (keeps_paths_in is_record area k n (λ p out. (turn_area s p out).1) write.others.paths);
+      dvc = made_then_made dvc_path m k n anew.dvc write.dvc;
       same_effect = ap (λ (f : Fixed). f.effect) write.others.aside.fixed ∙ anew.effect;
       book = grows_then m.aside.book k.aside.book n.aside.book anew.book write.others.aside.book;
       ran = have_run_then s m k n anew.ran write.others.aside.fixed;
-      remembered = recorded effect s e lock m k end n (same_lock s m k may.ready may.kept anew.others) entry write.path;
+      remembered = recorded effect s e lock m k end n (same_lock s m k may.ready may.kept anew) entry write.path;
     }
 
 pub moments_of_record : (s : Stage) (e : Entry) (lock : Lock) (start ran end : History) → MayRun s start.present.tree → HasMade s e start.present ran.present → Passes (InAnew s start.present) start ran → Passes (InWrite lock_path (lock_text (set lock s.name e)) ran.present) ran end → IfSome start.present.aside.fixed.effect (λ effect. Passes (InTurns effect (s ∷ []) lock start.present end.present) start end)
@@ -271,14 +245,14 @@ left_by : (effect : Effect) (s : Stage) (e : Entry) (lock : Lock) (m k n : Momen
 left_by effect s e lock m k n before entry (inl same) = inl (same_under_then lock_path m k n before same)
 left_by effect s e lock m k n before entry (inr new) = inr (refl, e, entry, new)
 
-left_after : (effect : Effect) (s : Stage) (e : Entry) (lock : Lock) (m k n : Moment) (fault : Fault) → m.aside.fixed.effect ≡ Some effect → MayRun s m.tree → HasMade s e m k → InWrite lock_path (lock_text (set lock s.name e)) k n → IsRecordFault fault → (fault ≡ NoMemory → n ≡ k) → IsLeftLock effect s lock fault m n
+left_after : (effect : Effect) (s : Stage) (e : Entry) (lock : Lock) (m k n : Moment) (fault : Fault) → m.aside.fixed.effect ≡ Some effect → MayRun s m.tree → HasMade s e m k → InWrite lock_path (lock_text (set lock s.name e)) k n → MayBe record_kinds (Some fault) → (fault ≡ NoMemory → n ≡ k) → IsLeftLock effect s lock fault m n
 left_after effect s e lock m k n NoMemory told may made write kind same =
-    inl (subst (IsSameUnder lock_path m) (sym (same refl)) (same_lock s m k may.ready may.kept made.anew.others))
+    inl (subst (IsSameUnder lock_path m) (sym (same refl)) (same_lock s m k may.ready may.kept made.anew))
 left_after effect s e lock m k n WorldFault told may made write kind same =
-    left_by effect s e lock m k n (same_lock s m k may.ready may.kept made.anew.others) (entry_of_run effect s e m k n (lock_text (set lock s.name e)) told may made write) write.path
-left_after effect s e lock m k n _ told may made write kind same = absurd kind
+    left_by effect s e lock m k n (same_lock s m k may.ready may.kept made.anew) (entry_of_run effect s e m k n (lock_text (set lock s.name e)) told may made write) write.path
+left_after effect s e lock m k n _ told may made write kind same = absurd (false≢true kind)
 
-pub left_of_record : (s : Stage) (e : Entry) (lock : Lock) (m k n : Moment) (r : Result (Unit {0}) Fault) → MayRun s m.tree → HasMade s e m k → InWrite lock_path (lock_text (set lock s.name e)) k n → IfErr r IsRecordFault → (r ≡ Err NoMemory → n ≡ k) → IfErr r (λ fault. IfSome m.aside.fixed.effect (λ effect. IsLeftLock effect s lock fault m n))
+pub left_of_record : (s : Stage) (e : Entry) (lock : Lock) (m k n : Moment) (r : Result (Unit {0}) Fault) → MayRun s m.tree → HasMade s e m k → InWrite lock_path (lock_text (set lock s.name e)) k n → MayBe record_kinds (fault_in r) → (r ≡ Err NoMemory → n ≡ k) → IfErr r (λ fault. IfSome m.aside.fixed.effect (λ effect. IsLeftLock effect s lock fault m n))
 left_of_record s e lock m k n (Ok done) may made write kind same = tt
 left_of_record s e lock m k n (Err fault) may made write kind same =
     if_some m.aside.fixed.effect (λ effect. IsLeftLock effect s lock fault m n) (λ effect told. left_after effect s e lock m k n fault told may made write kind (λ none. same (cc)))
@@ -288,16 +262,9 @@ left_of_record s e lock m k n (Err fault) may made write kind same =
 file_no_folder : (bytes : List ℕ) → Some (file bytes) ≡ Some folder → ⊥
 file_no_folder bytes e = cc
 
-folder_no_file : (bytes : List ℕ) → Some folder ≡ Some (file bytes) → ⊥
-folder_no_file bytes e = cc
-
 no_folder_then : (bytes : List ℕ) (k n : Moment) → IsSameUnder lock_path k n ⊎ IsNewFile lock_path bytes n → item_at k.tree lock_path ≢ Some folder → item_at n.tree lock_path ≢ Some folder
 no_folder_then bytes k n (inl same) none e = none (sym (same.items lock_path (under-refl lock_path)) ∙ e)
 no_folder_then bytes k n (inr new) none e = file_no_folder bytes (sym new.stands ∙ e)
-
-no_file_then : (k n : Moment) → IsMade dvc_path k n → IsNoFileAt k.tree dvc_path → IsNoFileAt n.tree dvc_path
-no_file_then k n (inl same) none bytes e = none bytes (sym same.item ∙ e)
-no_file_then k n (inr made) none bytes e = folder_no_file bytes (sym made.1.stands ∙ e)
 
 can_write_again : (bytes : List ℕ) (k n : Moment) → InWrite lock_path bytes k n → CanWrite lock_path k.tree → CanWrite lock_path n.tree
 can_write_again bytes k n write before = record {
@@ -312,3 +279,83 @@ next_of_record s e lock after m k n bytes (Ok done) may made write place remembe
   after = (e, remembered, still_present s e m k n bytes may made write, made.deps_sized, made.outs_sized);
   place = can_write_again bytes k n write (can_write s m k may.ready may.kept made.anew place);
 }
+
+-- ---- the lane is begun before the run
+
+begun_folder : (q : Path) (m n : Moment) → InScratch m n → is_record q ≡ false → item_at m.tree q ≡ Some folder → item_at n.tree q ≡ Some folder
+begun_folder q m n scratch own stands =
+    scratch_folder q m n scratch (or_parts (is_at dvc_path q) (under tmp_path q) (no_scratch_at q own)).1 stands
+
+-- the folder above a path that is no lane is none either
+parent_no_tmp : (p : Path) → is_record p ≡ false → under tmp_path (parent p) ≡ false
+parent_no_tmp p own =
+    let tmp = (or_parts (is_at dvc_path p) (under tmp_path p) (no_scratch_at p own)).1 in
+    false_from_ne_true (under tmp_path (parent p)) (λ e. both_ways (under tmp_path p) tmp (under-trans tmp_path (parent p) p e (under_parent p)))
+
+pub begun_folders : (s : Stage) (m n : Moment) → IsReady s → IsKept is_record s → InScratch m n → HasFolders (job_of s) m.tree → HasFolders (job_of s) n.tree
+begun_folders s m n ready kept scratch folders =
+    let stand : AllByRecursion (λ out. item_at m.tree (parent out) ≡ Some folder) (stage_outs s) =
+    subst (AllByRecursion (λ out. item_at m.tree (parent out) ≡ Some folder)) (job_outs s ready) folders.above in
+    record {
+      dir = begun_folder s.dir m n scratch kept.dir folders.dir;
+      above = subst (AllByRecursion (λ out. item_at n.tree (parent out) ≡ Some folder)) (sym (job_outs s ready)) (each_both (λ out. is_record out ≡ false) (λ out. item_at m.tree (parent out) ≡ Some folder) (λ out. item_at n.tree (parent out) ≡ Some folder) (stage_outs s) (λ out own e. scratch_folder (parent out) m n scratch (parent_no_tmp out own) e) kept.outs stand);
+    }
+
+begun_items : (s : Stage) (m n : Moment) → IsKept is_record s → InScratch m n → AllByRecursion (λ p. item_at n.tree p ≡ item_at m.tree p) (dep_paths s)
+begun_items s m n kept scratch =
+    each_from (λ p. is_record p ≡ false) (λ p. item_at n.tree p ≡ item_at m.tree p) (dep_paths s) (λ p own. (scratch_same p m n scratch (no_scratch_at p own)).item) kept.deps
+
+same_deps : (name : List ℕ) (t u : Tree) (ps : List Path) → AllByRecursion (λ p. item_at u p ≡ item_at t p) ps → dep_fault name u ps ≡ dep_fault name t ps
+same_deps name t u [] same = refl
+same_deps name t u (p ∷ ps) same =
+    ap (λ (i : Option Item). refused_dep name i p (dep_fault name u ps)) same.0 ∙ ap (refused_dep name (item_at t p) p) (same_deps name t u ps same.1)
+
+pub begun_deps : (s : Stage) (m n : Moment) → IsKept is_record s → InScratch m n → dep_fault s.name m.tree (dep_paths s) ≡ None → dep_fault s.name n.tree (dep_paths s) ≡ None
+begun_deps s m n kept scratch none = same_deps s.name m.tree n.tree (dep_paths s) (begun_items s m n kept scratch) ∙ none
+
+pub begun_invocation : (s : Stage) (m n : Moment) → IsReady s → IsKept is_record s → InScratch m n → dep_fault s.name m.tree (dep_paths s) ≡ None → invocation_of (job_of s) n.tree ≡ invocation_of (job_of s) m.tree
+begun_invocation s m n ready kept scratch none =
+    same_given s m.tree n.tree ready (files_of_deps s.name m.tree (dep_paths s) none) (begun_items s m n kept scratch)
+
+-- what is so of the effect where the lane is begun is so at the start
+pub begun_effect : (s : Stage) (m n : Moment) (P : Outcome → Type 0) → IsReady s → IsKept is_record s → InScratch m n → dep_fault s.name m.tree (dep_paths s) ≡ None → IfSome n.aside.fixed.effect (λ effect. P (effect (invocation_of (job_of s) n.tree))) → IfSome m.aside.fixed.effect (λ effect. P (effect (invocation_of (job_of s) m.tree)))
+begun_effect s m n P ready kept scratch none h =
+    let fixed : n.aside.fixed.effect ≡ m.aside.fixed.effect = ap (λ (f : Fixed). f.effect) scratch.others.aside.fixed in
+    let here : IfSome m.aside.fixed.effect (λ effect. P (effect (invocation_of (job_of s) n.tree))) =
+    subst (λ (e : Option Effect). IfSome e (λ effect. P (effect (invocation_of (job_of s) n.tree)))) fixed h in
+    subst (λ given. IfSome m.aside.fixed.effect (λ effect. P (effect given))) (begun_invocation s m n ready kept scratch none) here
+
+pub anew_of_scratch : (s : Stage) (m n : Moment) → InScratch m n → InAnew s m n
+anew_of_scratch s m n scratch =
+    record {
+      others = keeps_paths_in in_scratch (in_anew s) m n (λ p out. (or_parts (is_in_any (stage_outs s) p) (in_scratch p) out).1) scratch.others.paths;
+      dvc = scratch.dvc;
+      effect = ap (λ (f : Fixed). f.effect) scratch.others.aside.fixed;
+      book = scratch.others.aside.book;
+      ran = none_ran s m n scratch.others.aside.fixed;
+    }
+
+anew_then : (s : Stage) (m b n : Moment) → InScratch m b → InAnew s b n → InAnew s m n
+anew_then s m b n scratch h =
+    let first = anew_of_scratch s m b scratch in
+    record {
+      others = keeps_paths_then (in_anew s) m b n first.others h.others;
+      dvc = made_then_made dvc_path m b n first.dvc h.dvc;
+      effect = h.effect ∙ first.effect;
+      book = grows_then m.aside.book b.aside.book n.aside.book first.book h.book;
+      ran = record { jobs = h.ran.jobs; ran = h.ran.ran ∙ ap (λ (f : Fixed). f.ran ++ h.ran.jobs) scratch.others.aside.fixed; some = h.ran.some };
+    }
+
+-- the moments of the begin, and then those of the run
+pub begun_moments : (s : Stage) (a b c : History) → Passes (InScratch a.present) a b → Passes (InAnew s b.present) b c → Passes (InAnew s a.present) a c
+begun_moments s a b c scratch run =
+    passes_on (InAnew s a.present) (InAnew s b.present) a b c (passes_weaker (InScratch a.present) (InAnew s a.present) a b (λ n h. anew_of_scratch s a.present n h) scratch) (λ n h. anew_then s a.present b.present n scratch.now h) run
+
+pub some_map : (o : Option Effect) (P Q : Effect → Type 0) → ((e : Effect) → P e → Q e) → IfSome o P → IfSome o Q
+some_map None P Q f h = tt
+some_map (Some e) P Q f h = f e h
+
+-- a write of the lock that fails is no refusal that is due
+pub recorded_answer : (r : Result (Unit {0}) Fault) (due : Option Fault) → due ≡ None → MayBe record_kinds (fault_in r) → IsAnswer (fault_in r) due
+recorded_answer (Ok done) due none kind = none
+recorded_answer (Err fault) due none kind = inl (record_free fault kind)

@@ -2,28 +2,34 @@
 --     clear_gone, clear_keeps       one more clear
 --     anew_itself, anew_of_keeps, anew_of_run     each moment is one of a run of the stage
 --     answer_of_run, answer_of_look, made_of_look     what the answers of a run and of a look have to do with what is due
-use Rattle.std.proofs.Common.{◌≡◌, ◌≢◌, ℕ, ℤ, pos, ◌+◌, ◌<◌, true, List, [], ◌∷◌, ◌++◌, length, take, get_or, map, refl, sym, ap, subst, ◌∙◌, arith, Option, Some, None, IfSome, Result, Ok, Err, OnOk, inl, inr, zero, suc}
-use Rattle.std.specs.Bool.{⊤}
+use Rattle.std.proofs.Common.{◌≡◌, ◌≢◌, ℕ, ℤ, pos, ◌+◌, ◌<◌, true, false, List, [], ◌∷◌, ◌++◌, length, take, get_or, map, refl, sym, ap, subst, ◌∙◌, arith, Option, Some, None, IfSome, Result, Ok, Err, OnOk, inl, inr, zero, suc}
 use Rattle.std.specs.List.{AllByRecursion}
-use Rattle.std.proofs.lemmas.Bool.{cases_Bool, and_parts}
+use Rattle.std.proofs.lemmas.Bool.{false≢true, cases_Bool, and_parts, or_parts}
 use Rattle.std.proofs.lemmas.List.{append-nil, take_more}
 use Rattle.dvc_base.specs.Path.{Path, under}
 use Rattle.dvc_base.specs.declared.fault.Fault.{Fault}
-use Rattle.dvc_base.specs.declared.fault.Fault.TheVariants.{NoMemory, BadWords, Changed, NotBuilt, MissingDependency, CommandFailed, MissingOutput, NotFolder, WorldFault, OutFault}
+use Rattle.dvc_base.specs.declared.fault.Fault.TheVariants.{NoMemory, WorldFault, CommandFailed}
+use Rattle.dvc_base.specs.Fault.{MayBe}
 use Rattle.world_api.specs.Tree.{Value, value_at}
 use Rattle.world_api.specs.Effect.{Effect, Outcome, fails, gives, invocation_of, is_in_any, out_paths}
-use Rattle.world_api.specs.History.{Fixed, Book, Moment, Grows, ran_too, KeepsPaths, Keeps}
+use Rattle.world_api.specs.History.{Fixed, Moment, ran_too, KeepsPaths, Keeps}
 use Rattle.world_api.specs.Calls.{IsFileAt, IsCleared, InClear, IsRun, InRun, Meets, is_apart, are_apart}
-use Rattle.world_api.proofs.HistoryLemmas.{keeps_in, keeps_paths_itself, keeps_paths_then}
+use Rattle.world_api.proofs.HistoryLemmas.{keeps_in, keeps_paths_in, keeps_paths_itself, keeps_paths_then}
 use Rattle.world_api.proofs.ValueLemmas.{is_in_any-at, is_in_any-push}
-use Rattle.repro_core.specs.Stage.{job_of, dep_paths, stage_outs, IsReady}
-use Rattle.repro_core.specs.Due.{dep_fault, out_fault, outcome_fault}
-use Rattle.repro_core.specs.Answer.{fault_in, IsAnswer}
-use Rattle.repro_core.specs.Moments.{HaveRun}
-use Rattle.repro_core.specs.Steps.{IsClear, IsEnd, WasRun, InAnew}
-use Rattle.repro_core.specs.declared.stage.Stage.{Stage}
-use Rattle.repro_core.proofs.RoadLemmas.{apart_root}
-use Rattle.repro_core.proofs.AnewLemmas.{job_outs, same_invocation, files_of_outs}
+use Rattle.repro_laws.specs.Stage.{job_of, dep_paths, stage_outs, IsReady}
+use Rattle.repro_laws.specs.Due.{dep_fault, out_fault, outcome_fault}
+use Rattle.dvc_base.specs.Answer.{fault_in, IsAnswer}
+use Rattle.world_api.specs.Layout.{dvc_path}
+use Rattle.world_api.specs.Writes.{in_scratch}
+use Rattle.world_api.proofs.WriteLemmas.{same_at_itself}
+use Rattle.repro_laws.specs.Headline.{IsKept}
+use Rattle.repro_laws.specs.Moments.{is_record, HaveRun}
+use Rattle.repro_core.proofs.ApartLemmas.{same_dvc}
+use Rattle.repro_core.specs.Steps.{IsClear, WasRun, in_anew, InAnew, end_kinds}
+use Rattle.repro_laws.specs.declared.stage.Stage.{Stage}
+use Rattle.repro_laws.proofs.OptionLemmas.{if_some, if_some_at, grows_itself, grows_then}
+use Rattle.repro_laws.proofs.RoadLemmas.{apart_root}
+use Rattle.repro_laws.proofs.AnewLemmas.{job_outs, same_invocation, files_of_outs}
 
 -- ---- clears
 
@@ -57,12 +63,6 @@ apart_at (o ∷ outs) (suc i) out l e h =
 
 -- ---- moments
 
-pub grows_itself : (a : Book) → Grows a a
-grows_itself a digest bytes e = e
-
-pub grows_then : (a b c : Book) → Grows a b → Grows b c → Grows a c
-grows_then a b c x y digest bytes e = y digest bytes (x digest bytes e)
-
 pub none_ran : (s : Stage) (m n : Moment) → n.aside.fixed ≡ m.aside.fixed → HaveRun (s ∷ []) m n
 none_ran s m n e =
     record { jobs = []; ran = ap (λ (f : Fixed). f.ran) e ∙ sym (append-nil m.aside.fixed.ran); some = tt }
@@ -71,10 +71,14 @@ pub one_ran : (s : Stage) (m n : Moment) → n.aside.fixed ≡ ran_too (job_of s
 one_ran s m n e =
     record { jobs = job_of s ∷ []; ran = ap (λ (f : Fixed). f.ran) e; some = inl (refl, tt) }
 
-pub anew_of_keeps : (s : Stage) (m n : Moment) → Keeps (is_in_any (stage_outs s)) m n → InAnew s m n
-anew_of_keeps s m n h =
+outs_in_anew : (s : Stage) (p : Path) → in_anew s p ≡ false → is_in_any (stage_outs s) p ≡ false
+outs_in_anew s p out = (or_parts (is_in_any (stage_outs s) p) (in_scratch p) out).0
+
+pub anew_of_keeps : (s : Stage) (m n : Moment) → IsReady s → IsKept is_record s → Keeps (is_in_any (stage_outs s)) m n → InAnew s m n
+anew_of_keeps s m n ready kept h =
     record {
-      others = h.paths;
+      others = keeps_paths_in (is_in_any (stage_outs s)) (in_anew s) m n (outs_in_anew s) h.paths;
+      dvc = inl (same_dvc s m n ready kept h.paths);
       effect = ap (λ (f : Fixed). f.effect) h.aside.fixed;
       book = h.aside.book;
       ran = none_ran s m n h.aside.fixed;
@@ -83,19 +87,22 @@ anew_of_keeps s m n h =
 pub anew_itself : (s : Stage) (m : Moment) → InAnew s m m
 anew_itself s m =
     record {
-      others = keeps_paths_itself (is_in_any (stage_outs s)) m;
+      others = keeps_paths_itself (in_anew s) m;
+      dvc = inl (same_at_itself dvc_path m);
       effect = refl;
       book = grows_itself m.aside.book;
       ran = none_ran s m m refl;
     }
 
-pub anew_of_run : (s : Stage) (m cleared n : Moment) → IsReady s → Keeps (is_in_any (stage_outs s)) m cleared → InRun (job_of s) cleared n → InAnew s m n
-anew_of_run s m cleared n ready keeps run =
+pub anew_of_run : (s : Stage) (m cleared n : Moment) → IsReady s → IsKept is_record s → Keeps (is_in_any (stage_outs s)) m cleared → InRun (job_of s) cleared n → InAnew s m n
+anew_of_run s m cleared n ready kept keeps run =
     let area = is_in_any (stage_outs s) in
-    let others : KeepsPaths area cleared n =
+    let later : KeepsPaths area cleared n =
     subst (λ (outs : List Path). KeepsPaths (is_in_any outs) cleared n) (job_outs s ready) run.others in
+    let others = keeps_paths_then area m cleared n keeps.paths later in
     record {
-      others = keeps_paths_then area m cleared n keeps.paths others;
+      others = keeps_paths_in area (in_anew s) m n (outs_in_anew s) others;
+      dvc = inl (same_dvc s m n ready kept others);
       effect =
           elim run.aside [
             | inl a ↦ ap (λ (f : Fixed). f.effect) (a.fixed ∙ keeps.aside.fixed)
@@ -114,13 +121,6 @@ anew_of_run s m cleared n ready keeps run =
     }
 
 -- ---- answers
-
-pub if_some : {A : Type 0} (o : Option A) (P : A → Type 0) → ((x : A) → o ≡ Some x → P x) → IfSome o P
-if_some None P f = tt
-if_some (Some x) P f = f x refl
-
-pub if_some_at : {A : Type 0} (o : Option A) (P : A → Type 0) (x : A) → o ≡ Some x → IfSome o P → P x
-if_some_at {A = A} o P x e h = subst (λ (q : Option A). IfSome q P) e h
 
 -- what the run's code and the values that it left have to do with the effect, from the turn's start
 meets : (effect : Effect) (s : Stage) (m cleared n : Moment) (code : ℤ) → IsReady s → dep_fault s.name m.tree (dep_paths s) ≡ None → Keeps (is_in_any (stage_outs s)) m cleared → m.aside.fixed.effect ≡ Some effect → IsRun (job_of s) code cleared n → Meets (effect (invocation_of (job_of s) m.tree)) code (map (value_at n.tree) (stage_outs s))
@@ -142,20 +142,14 @@ gives_of_code : (o : Outcome) (values : List Value) → Meets o (pos 0) values �
 gives_of_code (fails found) values m = absurd (m.0 (sym m.1))
 gives_of_code (gives wanted) values m = ap gives (sym m.1)
 
-pub answer_of_run : (s : Stage) (m cleared n : Moment) (f : Fault) → IsReady s → dep_fault s.name m.tree (dep_paths s) ≡ None → Keeps (is_in_any (stage_outs s)) m cleared → WasRun (job_of s) s.name (Some f) cleared n → IsEnd (Some f) → IfSome m.aside.fixed.effect (λ effect. IsAnswer (Some f) (outcome_fault s (effect (invocation_of (job_of s) m.tree))))
+pub answer_of_run : (s : Stage) (m cleared n : Moment) (f : Fault) → IsReady s → dep_fault s.name m.tree (dep_paths s) ≡ None → Keeps (is_in_any (stage_outs s)) m cleared → WasRun (job_of s) s.name (Some f) cleared n → MayBe end_kinds (Some f) → IfSome m.aside.fixed.effect (λ effect. IsAnswer (Some f) (outcome_fault s (effect (invocation_of (job_of s) m.tree))))
 answer_of_run s m cleared n NoMemory ready none keeps run end =
-    if_some m.aside.fixed.effect (λ effect. ⊤) (λ effect e. tt)
+    if_some m.aside.fixed.effect (λ effect. IsAnswer (Some NoMemory) (outcome_fault s (effect (invocation_of (job_of s) m.tree)))) (λ effect e. inl refl)
 answer_of_run s m cleared n WorldFault ready none keeps run end =
-    if_some m.aside.fixed.effect (λ effect. ⊤) (λ effect e. tt)
+    if_some m.aside.fixed.effect (λ effect. IsAnswer (Some WorldFault) (outcome_fault s (effect (invocation_of (job_of s) m.tree)))) (λ effect e. inl refl)
 answer_of_run s m cleared n (CommandFailed stage found) ready none keeps run end =
-    if_some m.aside.fixed.effect (λ effect. IsAnswer (Some (CommandFailed stage found)) (outcome_fault s (effect (invocation_of (job_of s) m.tree)))) (λ effect e. let failed = failed_of_code s (effect (invocation_of (job_of s) m.tree)) run.0 (map (value_at n.tree) (stage_outs s)) (subst (λ (x : ℤ). x ≢ pos 0) run.2.1 end) (meets effect s m cleared n run.0 ready none keeps e run.1) in failed ∙ ap (λ (x : ℤ). Some (CommandFailed s.name x)) (sym run.2.1) ∙ ap (λ (x : List ℕ). Some (CommandFailed x found)) (sym run.2.0))
-answer_of_run s m cleared n BadWords ready none keeps run end = absurd end
-answer_of_run s m cleared n (Changed path told found) ready none keeps run end = absurd end
-answer_of_run s m cleared n (NotBuilt file) ready none keeps run end = absurd end
-answer_of_run s m cleared n (MissingOutput stage path) ready none keeps run end = absurd end
-answer_of_run s m cleared n (MissingDependency stage path) ready none keeps run end = absurd end
-answer_of_run s m cleared n (NotFolder path) ready none keeps run end = absurd end
-answer_of_run s m cleared n OutFault ready none keeps run end = absurd end
+    if_some m.aside.fixed.effect (λ effect. IsAnswer (Some (CommandFailed stage found)) (outcome_fault s (effect (invocation_of (job_of s) m.tree)))) (λ effect e. let failed = failed_of_code s (effect (invocation_of (job_of s) m.tree)) run.0 (map (value_at n.tree) (stage_outs s)) (subst (λ (x : ℤ). x ≢ pos 0) run.2.1 run.2.2) (meets effect s m cleared n run.0 ready none keeps e run.1) in inr (failed ∙ ap (λ (x : ℤ). Some (CommandFailed s.name x)) (sym run.2.1) ∙ ap (λ (x : List ℕ). Some (CommandFailed x found)) (sym run.2.0)))
+answer_of_run s m cleared n _ ready none keeps run end = absurd (false≢true end)
 
 gave : (effect : Effect) (s : Stage) (m cleared n : Moment) → IsReady s → dep_fault s.name m.tree (dep_paths s) ≡ None → Keeps (is_in_any (stage_outs s)) m cleared → m.aside.fixed.effect ≡ Some effect → WasRun (job_of s) s.name None cleared n → effect (invocation_of (job_of s) m.tree) ≡ gives (map (value_at n.tree) (stage_outs s))
 gave effect s m cleared n ready none keeps told run =

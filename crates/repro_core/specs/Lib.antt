@@ -1,14 +1,3 @@
-pub mod Stage
-pub mod Order
-pub mod Anew
-pub mod Due
-pub mod Answer
 pub mod Steps
-pub mod Book
-pub mod Entries
-pub mod Lock
-pub mod Choices
-pub mod Turns
-pub mod Headline
-pub mod Moments
-pub mod Sound
+pub mod Telling
+pub mod Turning

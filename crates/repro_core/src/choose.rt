@@ -1,75 +1,72 @@
-// The choice between a skip and a run.
-ghost use Rattle.std.specs.Prelude.{◌≡◌, true};
+// What a turn chooses, by what is remembered and what stands there.
+ghost use Rattle.std.specs.Prelude.{◌≡◌, IsTrue, IfOk, IsErrOf, Some};
+ghost use Rattle.dvc_base.specs.Answer.{fault_in, IsAnswer};
+ghost use Rattle.dvc_base.specs.Fault.{MayBe, IsHonest};
+ghost use Rattle.dvc_base.specs.declared.fault.Fault.TheVariants.{WorldFault};
+ghost use Rattle.world_api.specs.History.{IsCaused};
+ghost use Rattle.world_api.specs.Outside.{tree_of, IsUntouched};
 ghost use Rattle.lock_files.specs.Book.{entry_of};
-ghost use Rattle.std.specs.Prelude.{bytes_eq};
-ghost use Rattle.std.specs.Cmp.Lexicographic.{pointwise};
-ghost use Rattle.repro_core.specs.Entries.{same_path, same_entry};
-ghost use Rattle.repro_core.specs.Choices.{choice_by};
+ghost use Rattle.repro_laws.specs.Stage.{job_of, dep_paths, IsReady};
+ghost use Rattle.repro_laws.specs.Due.{dep_fault};
+ghost use Rattle.repro_laws.specs.Entries.{named_paths};
+ghost use Rattle.repro_laws.specs.Choices.{choice_by, choice_of};
+ghost use Rattle.repro_laws.specs.Moments.{AreSized};
+ghost use Rattle.repro_core.specs.Steps.{IsPlan, see_kinds};
+ghost use Rattle.repro_core.specs.Telling.{TellsOwn};
 
-use crate::Choice;
-use dvc_base::Text;
-use lock_files::{Entry, LockBook, PathEntry};
+use crate::plan::Plan;
+use crate::see::see;
+use change_check::same_entry;
+use dvc_base::{Fault, Text};
+use lock_files::{Entry, LockBook, PathEntries};
+use repro_laws::{Choice, Stage};
+use std::alloc::Global;
+use world_api::ReadFiles;
 
-/// Whether two entries are the same: their commands, and each of their paths with its name and size.
-pub fn same_entry(a: &Entry, b: &Entry) -> bool
-    ensures same { result ≡ true → a.now ≡ b.now }
-    ensures found { a.now ≡ b.now → result ≡ true }
-    ensures by_parts { result ≡ same_entry a.now b.now }
-{
-    same_parts(a, b)
+/// What a turn has chosen, and the names of the dependencies by which it did.
+#[derive(Drop)]
+pub(crate) struct Chosen {
+    pub(crate) choice: Choice,
+    pub(crate) deps: PathEntries,
 }
 
-fn same_parts(a: &Entry, b: &Entry) -> bool
-    ensures by_parts { result ≡ same_entry a.now b.now }
+/// Looks at what stands at the stage's paths, and chooses.
+pub(crate) fn choose_turn<F: ReadFiles>(
+    alloc: Global,
+    files: &mut F,
+    lock: &LockBook,
+    stage: &Stage,
+    plan: &Plan,
+) -> Result<Chosen, Fault>
+    requires ready { IsReady stage.now }
+    requires plan { IsPlan stage.now plan.now }
+    ensures answer { IsTrue F.tells → IsAnswer (fault_in result)
+        (dep_fault stage.now.name (tree_of (F.history files.old)) (dep_paths stage.now)) }
+    ensures chosen { IsTrue F.tells → IfOk result (λ chosen.
+        choice_of stage.now (tree_of (F.history files.old)) lock.now ≡ chosen.choice) }
+    ensures named { IsTrue F.tells → IfOk result (λ chosen.
+        named_paths (tree_of (F.history files.old)) stage.now.dir (job_of stage.now).deps ≡ Some chosen.deps) }
+    ensures sized { IfOk result (λ chosen. AreSized chosen.deps) }
+    ensures unchanged { IsUntouched F.tells (F.history files.old) (F.history files.new) }
+    ensures cause { IsCaused (F.faults files.old) (F.faults files.new) (IsErrOf result WorldFault) }
+    ensures told { TellsOwn stage.now (fault_in result) }
+    ensures kinds { MayBe see_kinds (fault_in result) }
+    ensures honest { IsHonest F.tells (fault_in result) }
 {
-    same_texts(a.commands.as_slice(), b.commands.as_slice())
-        && same_paths(a.deps.as_slice(), b.deps.as_slice())
-        && same_paths(a.outs.as_slice(), b.outs.as_slice())
+    let seen = see(alloc, files, stage, plan)?;
+    let choice = choose(lock, &stage.name, &seen.present);
+    Ok(Chosen {
+        choice,
+        deps: seen.deps,
+    })
 }
 
-/// A skip where what is remembered of the stage of this name is the same as the entry that it has, and else a run.
-pub(crate) fn choose(lock: &LockBook, name: &Text, present: &Option<Entry>) -> Choice
+// A skip where what is remembered of the stage of this name is the same as the entry that it has, and else a run.
+fn choose(lock: &LockBook, name: &Text, present: &Option<Entry>) -> Choice
     ensures chosen { result ≡ choice_by (entry_of lock.now name.now) present.now }
 {
     match (lock.get(name.as_str()), present) {
         (Some(remembered), Some(present)) if same_entry(remembered, present) => Choice::Skip,
         _ => Choice::Run,
     }
-}
-
-fn same_texts(a: &[Text], b: &[Text]) -> bool
-    ensures by_each { result ≡ pointwise bytes_eq a.now b.now }
-{
-    if a.len() != b.len() {
-        return false;
-    }
-    for at in 0..a.len() {
-        if a[at].as_str() != b[at].as_str() {
-            return false;
-        }
-    }
-    true
-}
-
-fn same_paths(a: &[PathEntry], b: &[PathEntry]) -> bool
-    ensures by_each { result ≡ pointwise same_path a.now b.now }
-{
-    if a.len() != b.len() {
-        return false;
-    }
-    for at in 0..a.len() {
-        if !same_path(&a[at], &b[at]) {
-            return false;
-        }
-    }
-    true
-}
-
-fn same_path(a: &PathEntry, b: &PathEntry) -> bool
-    ensures by_parts { result ≡ same_path a.now b.now }
-{
-    a.path.as_str() == b.path.as_str()
-        && a.name == b.name
-        && a.size == b.size
-        && a.nfiles == b.nfiles
 }

@@ -1,47 +1,73 @@
-// The lines that tell of a stage's run.
-ghost use Rattle.std.specs.Prelude.{◌++◌, IsTrue};
-ghost use Rattle.world_api.specs.History.{HasCause};
+// The lines that tell of a stage's turn.
+ghost use Rattle.std.specs.Prelude.{◌≡◌, ◌++◌, IsTrue, IfOk, OnOk, IsErrOf, string_bytes};
+ghost use Rattle.dvc_base.specs.Answer.{fault_in};
+ghost use Rattle.dvc_base.specs.Fault.{MayBe};
+ghost use Rattle.dvc_base.specs.declared.fault.Fault.TheVariants.{OutFault};
+ghost use Rattle.world_api.specs.History.{IsCaused};
 ghost use Rattle.world_api.specs.Calls.{Takes};
-ghost use Rattle.repro_core.specs.Due.{command_lines, lines_of};
-ghost use Rattle.repro_core.specs.declared.stage.Choice.TheVariants.{Skip, Run};
+ghost use Rattle.repro_laws.specs.Due.{command_lines, lines_of};
+ghost use Rattle.repro_core.specs.Steps.{put_kinds};
 
-use crate::Stage;
-use dvc_base::{Failed, Text};
+use dvc_base::{Fault, NoMemory, Text};
+use repro_laws::{Choice, Stage};
+use std::alloc::Global;
 use world_api::Sink;
 
-/// Puts that the stage is skipped.
-pub(crate) fn put_skip<K: Sink>(stage: &Stage, out: &mut K) -> Result<(), Failed>
-    ensures taken { IsTrue K.tells → Takes (K.taken out.old) (lines_of stage.now Skip) (K.taken out.new) result }
-    ensures cause { HasCause (K.faults out.old) (K.faults out.new) result }
+/// Puts the lines of the choice, all at once.
+pub(crate) fn put_choice<K: Sink>(
+    alloc: Global,
+    stage: &Stage,
+    choice: Choice,
+    out: &mut K,
+) -> Result<(), Fault>
+    ensures taken { IsTrue K.tells → Takes (K.taken out.old) (lines_of stage.now choice) (K.taken out.new) result }
+    ensures cause { IsCaused (K.faults out.old) (K.faults out.new) (IsErrOf result OutFault) }
+    ensures kinds { MayBe put_kinds (fault_in result) }
 {
-    put_between(out, "Stage '", &stage.name, "' didn't change, skipping\n")
+    let lines = lines_of(alloc, stage, choice)?;
+    match out.put(lines.as_str().as_bytes()) {
+        Ok(()) => Ok(()),
+        Err(_) => Err(Fault::OutFault),
+    }
 }
 
-/// Puts the stage's name, and each of its commands.
-pub(crate) fn put_lines<K: Sink>(stage: &Stage, out: &mut K) -> Result<(), Failed>
-    ensures taken { IsTrue K.tells → Takes (K.taken out.old) (lines_of stage.now Run) (K.taken out.new) result }
-    ensures cause { HasCause (K.faults out.old) (K.faults out.new) result }
+// A skip is one line with the stage's name, and a run is one and then each command.
+fn lines_of(alloc: Global, stage: &Stage, choice: Choice) -> Result<String, NoMemory>
+    ensures made { IfOk result (λ lines. string_bytes lines ≡ lines_of stage.now choice) }
 {
-    put_between(out, "Running stage '", &stage.name, "':\n")?;
-    put_commands(out, stage.commands.as_slice())
+    let mut lines = String::new(alloc);
+    match choice {
+        Choice::Skip => {
+            add_between(
+                &mut lines,
+                "Stage '",
+                &stage.name,
+                "' didn't change, skipping\n",
+            )?;
+        }
+        Choice::Run => {
+            add_between(&mut lines, "Running stage '", &stage.name, "':\n")?;
+            add_commands(&mut lines, stage.commands.as_slice())?;
+        }
+    }
+    Ok(lines)
 }
 
-fn put_commands<K: Sink>(out: &mut K, commands: &[Text]) -> Result<(), Failed>
-    ensures taken { IsTrue K.tells → Takes (K.taken out.old) (command_lines commands.now) (K.taken out.new) result }
-    ensures cause { HasCause (K.faults out.old) (K.faults out.new) result }
+fn add_commands(lines: &mut String, commands: &[Text]) -> Result<(), NoMemory>
+    ensures added { OnOk result (string_bytes lines.new ≡ string_bytes lines.old ++ command_lines commands.now) }
 {
     for command in commands {
-        put_between(out, "> ", command, "\n")?;
+        add_between(lines, "> ", command, "\n")?;
     }
     Ok(())
 }
 
-fn put_between<K: Sink>(out: &mut K, before: &str, text: &Text, after: &str) -> Result<(), Failed>
-    ensures taken { IsTrue K.tells →
-        Takes (K.taken out.old) (before.now ++ text.now ++ after.now) (K.taken out.new) result }
-    ensures cause { HasCause (K.faults out.old) (K.faults out.new) result }
+fn add_between(lines: &mut String, before: &str, text: &Text, after: &str) -> Result<(), NoMemory>
+    ensures added { OnOk result
+        (string_bytes lines.new ≡ string_bytes lines.old ++ (before.now ++ text.now ++ after.now)) }
 {
-    out.put(before.as_bytes())?;
-    out.put(text.as_str().as_bytes())?;
-    out.put(after.as_bytes())
+    lines.push_str(before)?;
+    lines.push_str(text.as_str())?;
+    lines.push_str(after)?;
+    Ok(())
 }

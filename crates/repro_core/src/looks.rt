@@ -2,41 +2,51 @@
 ghost use Rattle.std.specs.Prelude.{◌≡◌, [], ◌∷◌, map, IsTrue, IsErrOf, None};
 ghost use Rattle.dvc_base.specs.declared.fault.Fault.TheVariants.{WorldFault};
 ghost use Rattle.world_api.specs.Tree.{value_at};
-ghost use Rattle.repro_core.specs.Due.{dep_fault, out_fault};
-ghost use Rattle.repro_core.specs.Answer.{fault_in, IsAnswer, IsCounted};
-ghost use Rattle.repro_core.specs.Steps.{IsDepLook, IsLook};
+ghost use Rattle.repro_laws.specs.Due.{dep_fault, out_fault};
+ghost use Rattle.dvc_base.specs.Answer.{fault_in, IsAnswer};
+ghost use Rattle.world_api.specs.History.{IsCaused};
+ghost use Rattle.dvc_base.specs.Fault.{MayBe};
+ghost use Rattle.repro_core.specs.Steps.{dep_kinds, out_kinds};
+ghost use Rattle.repro_core.specs.Telling.{TellsOf};
 
 use dvc_base::{Fault, Plain, Rel, Text};
 use std::alloc::Global;
-use world_api::{Kind, World};
+use world_api::{Kind, ReadFiles};
 
 /// Looks at each dependency of the stage of this name. The first that is missing, or is a folder, is refused.
-pub(crate) fn look_at_deps<W: World>(
+pub(crate) fn look_at_deps<F: ReadFiles>(
     alloc: Global,
-    world: &mut W,
+    files: &mut F,
     name: &Text,
     deps: &[Rel],
 ) -> Result<(), Fault>
-    ensures answer { IsTrue W.tells →
-        IsAnswer (fault_in result) (dep_fault name.now (W.history world.old).present.tree deps.now) }
-    ensures unchanged { IsTrue W.tells → W.history world.new ≡ W.history world.old }
-    ensures cause { IsCounted (W.faults world.old) (W.faults world.new) (IsErrOf result WorldFault) }
-    ensures look { IsDepLook (fault_in result) }
+    ensures answer { IsTrue F.tells →
+        IsAnswer (fault_in result) (dep_fault name.now (F.history files.old).present.tree deps.now) }
+    ensures unchanged { IsTrue F.tells → F.history files.new ≡ F.history files.old }
+    ensures cause { IsCaused (F.faults files.old) (F.faults files.new) (IsErrOf result WorldFault) }
+    ensures told { TellsOf name.now deps.now [] (fault_in result) }
+    ensures kinds { MayBe dep_kinds (fault_in result) }
 {
     for dep in deps {
-        look_at_dep(alloc, world, name, dep)?;
+        look_at_dep(alloc, files, name, dep)?;
     }
     Ok(())
 }
 
-fn look_at_dep<W: World>(alloc: Global, world: &mut W, name: &Text, dep: &Rel) -> Result<(), Fault>
-    ensures answer { IsTrue W.tells →
-        IsAnswer (fault_in result) (dep_fault name.now (W.history world.old).present.tree (dep.now ∷ [])) }
-    ensures unchanged { IsTrue W.tells → W.history world.new ≡ W.history world.old }
-    ensures cause { IsCounted (W.faults world.old) (W.faults world.new) (IsErrOf result WorldFault) }
-    ensures look { IsDepLook (fault_in result) }
+fn look_at_dep<F: ReadFiles>(
+    alloc: Global,
+    files: &mut F,
+    name: &Text,
+    dep: &Rel,
+) -> Result<(), Fault>
+    ensures answer { IsTrue F.tells →
+        IsAnswer (fault_in result) (dep_fault name.now (F.history files.old).present.tree (dep.now ∷ [])) }
+    ensures unchanged { IsTrue F.tells → F.history files.new ≡ F.history files.old }
+    ensures cause { IsCaused (F.faults files.old) (F.faults files.new) (IsErrOf result WorldFault) }
+    ensures told { TellsOf name.now (dep.now ∷ []) [] (fault_in result) }
+    ensures kinds { MayBe dep_kinds (fault_in result) }
 {
-    let Ok(kind) = world.kind(dep) else {
+    let Ok(kind) = files.kind(dep) else {
         return Err(Fault::WorldFault);
     };
     match kind {
@@ -52,37 +62,39 @@ fn look_at_dep<W: World>(alloc: Global, world: &mut W, name: &Text, dep: &Rel) -
 }
 
 /// Looks at each output of the stage of this name. The first that is missing, or is a folder, is refused.
-pub(crate) fn look_at_outputs<W: World>(
+pub(crate) fn look_at_outputs<F: ReadFiles>(
     alloc: Global,
-    world: &mut W,
+    files: &mut F,
     name: &Text,
     outs: &[Rel],
 ) -> Result<(), Fault>
-    ensures answer { IsTrue W.tells → IsAnswer (fault_in result)
-        (out_fault name.now outs.now (map (value_at (W.history world.old).present.tree) outs.now)) }
-    ensures unchanged { IsTrue W.tells → W.history world.new ≡ W.history world.old }
-    ensures cause { IsCounted (W.faults world.old) (W.faults world.new) (IsErrOf result WorldFault) }
-    ensures look { IsLook (fault_in result) }
+    ensures answer { IsTrue F.tells → IsAnswer (fault_in result)
+        (out_fault name.now outs.now (map (value_at (F.history files.old).present.tree) outs.now)) }
+    ensures unchanged { IsTrue F.tells → F.history files.new ≡ F.history files.old }
+    ensures cause { IsCaused (F.faults files.old) (F.faults files.new) (IsErrOf result WorldFault) }
+    ensures told { TellsOf name.now [] outs.now (fault_in result) }
+    ensures kinds { MayBe out_kinds (fault_in result) }
 {
     for out in outs {
-        look_at_output(alloc, world, name, out)?;
+        look_at_output(alloc, files, name, out)?;
     }
     Ok(())
 }
 
-fn look_at_output<W: World>(
+fn look_at_output<F: ReadFiles>(
     alloc: Global,
-    world: &mut W,
+    files: &mut F,
     name: &Text,
     out: &Rel,
 ) -> Result<(), Fault>
-    ensures answer { IsTrue W.tells → IsAnswer (fault_in result)
-        (out_fault name.now (out.now ∷ []) (value_at (W.history world.old).present.tree out.now ∷ [])) }
-    ensures unchanged { IsTrue W.tells → W.history world.new ≡ W.history world.old }
-    ensures cause { IsCounted (W.faults world.old) (W.faults world.new) (IsErrOf result WorldFault) }
-    ensures look { IsLook (fault_in result) }
+    ensures answer { IsTrue F.tells → IsAnswer (fault_in result)
+        (out_fault name.now (out.now ∷ []) (value_at (F.history files.old).present.tree out.now ∷ [])) }
+    ensures unchanged { IsTrue F.tells → F.history files.new ≡ F.history files.old }
+    ensures cause { IsCaused (F.faults files.old) (F.faults files.new) (IsErrOf result WorldFault) }
+    ensures told { TellsOf name.now [] (out.now ∷ []) (fault_in result) }
+    ensures kinds { MayBe out_kinds (fault_in result) }
 {
-    let Ok(kind) = world.kind(out) else {
+    let Ok(kind) = files.kind(out) else {
         return Err(Fault::WorldFault);
     };
     match kind {

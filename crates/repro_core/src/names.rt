@@ -1,18 +1,21 @@
 // The names of what stands at a stage's paths.
-ghost use Rattle.std.specs.Prelude.{◌≡◌, ◌<◌, ◌^◌, length, map, IsTrue, IfOk, IfErr, IfSome, IsErrOf};
+ghost use Rattle.std.specs.Prelude.{◌≡◌, ◌<◌, ◌^◌, [], ◌∷◌, length, map, IsTrue, IfOk, IfSome, IsErrOf};
 ghost use Rattle.dvc_base.specs.declared.fault.Fault.TheVariants.{WorldFault};
 ghost use Rattle.world_api.specs.Tree.{value_at};
 ghost use Rattle.world_api.specs.Effect.{path_from};
 ghost use Rattle.file_hash.specs.Naming.{named_of};
-ghost use Rattle.repro_core.specs.Entries.{named_path};
-ghost use Rattle.repro_core.specs.Answer.{IsCounted};
-ghost use Rattle.repro_core.specs.Steps.{IsFound, IsInside, IsNameFault};
+ghost use Rattle.repro_laws.specs.Entries.{named_path};
+ghost use Rattle.world_api.specs.History.{IsCaused};
+ghost use Rattle.dvc_base.specs.Answer.{fault_in};
+ghost use Rattle.dvc_base.specs.Fault.{MayBe, IsHonest};
+ghost use Rattle.repro_core.specs.Steps.{IsFound, IsInside, name_kinds};
+ghost use Rattle.repro_core.specs.Telling.{ChangesIn};
 
 use dvc_base::{Fault, Plain, Rel, Text};
 use file_hash::{HashFault, name_at};
 use lock_files::{PathEntries, PathEntry};
 use std::alloc::Global;
-use world_api::Files;
+use world_api::ReadFiles;
 
 /// What naming a list of paths has found.
 #[derive(Drop)]
@@ -24,7 +27,7 @@ pub(crate) enum Found {
 }
 
 /// Names each of the paths, which the texts name from a folder. It stops at the first that isn't a file.
-pub(crate) fn name_paths<F: Files>(
+pub(crate) fn name_paths<F: ReadFiles>(
     alloc: Global,
     files: &mut F,
     dir: &Rel,
@@ -35,8 +38,10 @@ pub(crate) fn name_paths<F: Files>(
     ensures found { IsTrue F.tells → IfOk result (IsFound (F.history files.old).present.tree dir.now texts.now) }
     ensures inside { IfOk result (IsInside (length texts.now)) }
     ensures unchanged { IsTrue F.tells → F.history files.new ≡ F.history files.old }
-    ensures refused { IfErr result (IsNameFault F.tells) }
-    ensures cause { IsCounted (F.faults files.old) (F.faults files.new) (IsErrOf result WorldFault) }
+    ensures told { ChangesIn paths.now (fault_in result) }
+    ensures kinds { MayBe name_kinds (fault_in result) }
+    ensures honest { IsHonest F.tells (fault_in result) }
+    ensures cause { IsCaused (F.faults files.old) (F.faults files.new) (IsErrOf result WorldFault) }
 {
     let mut entries = PathEntries::new(alloc);
     for at in 0..texts.len() {
@@ -49,7 +54,7 @@ pub(crate) fn name_paths<F: Files>(
 }
 
 // The path's text with the name of the file that stands there; none where no file does.
-fn name_path<F: Files>(
+fn name_path<F: ReadFiles>(
     alloc: Global,
     files: &mut F,
     text: &Text,
@@ -59,8 +64,10 @@ fn name_path<F: Files>(
         entry ≡ named_path text.now (named_of (value_at (F.history files.old).present.tree at.now))) }
     ensures sized { IfOk result (λ entry. IfSome entry (λ p. p.size < 2 ^ 64)) }
     ensures unchanged { IsTrue F.tells → F.history files.new ≡ F.history files.old }
-    ensures refused { IfErr result (IsNameFault F.tells) }
-    ensures cause { IsCounted (F.faults files.old) (F.faults files.new) (IsErrOf result WorldFault) }
+    ensures told { ChangesIn (at.now ∷ []) (fault_in result) }
+    ensures kinds { MayBe name_kinds (fault_in result) }
+    ensures honest { IsHonest F.tells (fault_in result) }
+    ensures cause { IsCaused (F.faults files.old) (F.faults files.new) (IsErrOf result WorldFault) }
 {
     match name_at(alloc, files, at) {
         Ok(named) => Ok(Some(PathEntry {

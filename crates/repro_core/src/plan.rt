@@ -3,15 +3,13 @@ ghost use Rattle.std.specs.Prelude.{◌≡◌, map, IsTrue, IfOk};
 ghost use Rattle.std.specs.List.{list_all};
 ghost use Rattle.world_api.specs.Effect.{path_from};
 ghost use Rattle.world_api.specs.Calls.{is_path};
-ghost use Rattle.repro_core.specs.Stage.{job_of, IsReady};
+ghost use Rattle.repro_laws.specs.Stage.{job_of, IsReady};
 ghost use Rattle.repro_core.specs.Steps.{IsPlan};
 
-use crate::Stage;
-use crate::order::in_order;
-use crate::path::lock_path;
 use dvc_base::{NoMemory, PathFault, Plain, Plural, Rel, Text, Texts};
+use repro_laws::{Stage, in_order};
 use std::alloc::Global;
-use world_api::Job;
+use world_api::{Job, lock_path};
 
 /// All of a turn that takes memory, so that no want of it comes between its changes.
 #[derive(Drop)]

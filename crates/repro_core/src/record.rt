@@ -1,16 +1,17 @@
 // Remembering what a run has read and written.
-ghost use Rattle.std.specs.Prelude.{◌≡◌, IsTrue, IfErr, OnOk, IsErrOf, Err};
+ghost use Rattle.std.specs.Prelude.{◌≡◌, IsTrue, OnOk, IsErrOf, Err};
 ghost use Rattle.dvc_base.specs.declared.fault.Fault.TheVariants.{NoMemory, WorldFault};
-ghost use Rattle.world_api.specs.History.{Passes};
+ghost use Rattle.world_api.specs.History.{Passes, IsCaused};
 ghost use Rattle.world_api.specs.Writes.{IsNewFile, InWrite, CanWrite};
 ghost use Rattle.lock_files.specs.Book.{set};
 ghost use Rattle.lock_files.specs.Lock.{lock_text};
-ghost use Rattle.repro_core.specs.Answer.{IsCounted};
-ghost use Rattle.repro_core.specs.Moments.{lock_path};
-ghost use Rattle.repro_core.specs.Steps.{IsRecordFault};
+ghost use Rattle.world_api.specs.Layout.{lock_path};
+ghost use Rattle.dvc_base.specs.Answer.{fault_in};
+ghost use Rattle.dvc_base.specs.Fault.{MayBe};
+ghost use Rattle.repro_core.specs.Steps.{record_kinds};
 
-use crate::write::write_bytes;
 use dvc_base::{Fault, Rel, Text};
+use file_bytes::write_bytes;
 use lock_files::{Entry, LockBook, print_lock};
 use std::alloc::Global;
 use world_api::Files;
@@ -34,8 +35,8 @@ pub(crate) fn record<F: Files>(
         (F.history files.old) (F.history files.new) }
     // Want of memory comes before anything is touched.
     ensures untouched { IsTrue F.tells → result ≡ Err NoMemory → F.history files.new ≡ F.history files.old }
-    ensures refused { IfErr result IsRecordFault }
-    ensures cause { IsCounted (F.faults files.old) (F.faults files.new) (IsErrOf result WorldFault) }
+    ensures kinds { MayBe record_kinds (fault_in result) }
+    ensures cause { IsCaused (F.faults files.old) (F.faults files.new) (IsErrOf result WorldFault) }
 {
     lock.set(alloc, name.as_str(), entry)?;
     let text = print_lock(alloc, lock)?;

@@ -3,31 +3,37 @@ ghost use Rattle.std.specs.Prelude.{◌≡◌, [], ◌∷◌, IsTrue, IfSome, If
 ghost use Rattle.std.specs.List.{AllByRecursion};
 ghost use Rattle.dvc_base.specs.declared.fault.Fault.TheVariants.{WorldFault};
 ghost use Rattle.world_api.specs.Effect.{invocation_of};
-ghost use Rattle.world_api.specs.History.{Passes};
+ghost use Rattle.world_api.specs.History.{Passes, IsCaused};
+ghost use Rattle.world_api.specs.Outside.{IsUntouched};
 ghost use Rattle.world_api.specs.Calls.{IsFileAt, HasFolders};
 ghost use Rattle.world_api.specs.Writes.{IsNewFile, CanWrite};
 ghost use Rattle.lock_files.specs.Lock.{lock_text};
-ghost use Rattle.repro_core.specs.Stage.{job_of, dep_paths, stage_outs, IsReady};
-ghost use Rattle.repro_core.specs.Entries.{named_paths};
-ghost use Rattle.repro_core.specs.Due.{dep_fault, outcome_fault};
-ghost use Rattle.repro_core.specs.Answer.{fault_in, IsAnswer, Gains, IsCounted};
-ghost use Rattle.repro_core.specs.Turns.{standing, Runs};
-ghost use Rattle.repro_core.specs.Headline.{IsKept};
-ghost use Rattle.repro_core.specs.Moments.{lock_path, is_record, AreSized, InTurns, IsNext, IsLeftLock};
-ghost use Rattle.repro_core.specs.declared.stage.Choice.TheVariants.{Run};
-ghost use Rattle.repro_core.specs.Steps.{IsPlan, IsRunFault, IsGoneFault};
+ghost use Rattle.repro_laws.specs.Stage.{job_of, dep_paths, stage_outs, IsReady};
+ghost use Rattle.repro_laws.specs.Entries.{named_paths};
+ghost use Rattle.repro_laws.specs.Due.{dep_fault, outcome_fault};
+ghost use Rattle.dvc_base.specs.Answer.{fault_in, IsAnswer, Gains};
+ghost use Rattle.repro_laws.specs.Turns.{standing, Runs};
+ghost use Rattle.repro_laws.specs.Headline.{IsKept};
+ghost use Rattle.repro_laws.specs.Moments.{is_record, AreSized, InTurns, IsNext, IsLeftLock};
+ghost use Rattle.world_api.specs.Layout.{lock_path};
+ghost use Rattle.repro_laws.specs.declared.stage.Choice.TheVariants.{Run};
+ghost use Rattle.dvc_base.specs.Fault.{MayBe, IsHonest};
+ghost use Rattle.repro_core.specs.Steps.{IsPlan, name_kinds, run_kinds};
+ghost use Rattle.repro_core.specs.Telling.{TellsOwn};
 
-use crate::Stage;
 use crate::names::{Found, name_paths};
 use crate::outcome::run_anew;
 use crate::plan::Plan;
 use crate::record::record;
 use dvc_base::{Fault, Plain};
+use file_bytes::begin_write;
 use lock_files::{Entry, LockBook, PathEntries};
+use repro_laws::Stage;
 use std::alloc::Global;
-use world_api::World;
+use world_api::{ReadFiles, World};
 
-/// Runs the stage, names what it has made, and remembers it with the names of the dependencies.
+/// Runs the stage, names what it has made, and remembers it with the names of the dependencies. A lock that can't be
+/// written is told before anything is cleared.
 pub(crate) fn run_and_record<W: World>(
     alloc: Global,
     world: &mut W,
@@ -64,41 +70,75 @@ pub(crate) fn run_and_record<W: World>(
     ensures moments { IsTrue W.tells → IfSome (W.history world.old).present.aside.fixed.effect (λ effect.
         Passes (InTurns effect (stage.now ∷ []) lock.old (W.history world.old).present (W.history world.new).present)
         (W.history world.old) (W.history world.new)) }
-    ensures cause { IsCounted (W.faults world.old) (W.faults world.new) (IsErrOf result WorldFault) }
-    ensures kinds { IsRunFault W.tells (fault_in result) }
+    ensures cause { IsCaused (W.faults world.old) (W.faults world.new) (IsErrOf result WorldFault) }
+    ensures told { TellsOwn stage.now (fault_in result) }
+    ensures kinds { MayBe run_kinds (fault_in result) }
+    ensures honest { IsHonest W.tells (fault_in result) }
 {
-    run_anew(alloc, world, stage, plan)?;
-    let outs = name_outs(alloc, world, stage, plan)?;
-    let commands = stage.commands.copy(alloc)?;
-    let entry = Entry {
-        commands,
-        deps,
-        outs,
+    let Ok(()) = begin_write(world) else {
+        return Err(Fault::WorldFault);
     };
+    run_anew(alloc, world, stage, plan)?;
+    let entry = entry_of_run(alloc, world, stage, plan, deps)?;
     record(alloc, world, lock, &plan.lock, &stage.name, entry)
 }
 
-// The names of outputs that are files.
-fn name_outs<W: World>(
+// The entry of a run whose outputs are files, with the names of its dependencies.
+fn entry_of_run<F: ReadFiles>(
     alloc: Global,
-    world: &mut W,
+    files: &mut F,
+    stage: &Stage,
+    plan: &Plan,
+    deps: PathEntries,
+) -> Result<Entry, Fault>
+    requires ready { IsReady stage.now }
+    requires plan { IsPlan stage.now plan.now }
+    requires files { IsTrue F.tells →
+        AllByRecursion (IsFileAt (F.history files.old).present.tree) (stage_outs stage.now) }
+    ensures outs { IsTrue F.tells → IfOk result (λ entry.
+        named_paths (F.history files.old).present.tree stage.now.dir (job_of stage.now).outs ≡ Some entry.outs) }
+    ensures others { IfOk result (λ entry. (entry.commands ≡ stage.now.commands) × (entry.deps ≡ deps)) }
+    ensures sized { IfOk result (λ entry. AreSized entry.outs) }
+    ensures unchanged { IsUntouched F.tells (F.history files.old) (F.history files.new) }
+    // A file that was found is gone only over a world that doesn't tell its tree.
+    ensures there { IsTrue F.tells → MayBe name_kinds (fault_in result) }
+    ensures told { TellsOwn stage.now (fault_in result) }
+    ensures kinds { MayBe run_kinds (fault_in result) }
+    ensures honest { IsHonest F.tells (fault_in result) }
+    ensures cause { IsCaused (F.faults files.old) (F.faults files.new) (IsErrOf result WorldFault) }
+{
+    let outs = name_outs(alloc, files, stage, plan)?;
+    Ok(Entry {
+        commands: stage.commands.copy(alloc)?,
+        deps,
+        outs,
+    })
+}
+
+// The names of outputs that are files.
+fn name_outs<F: ReadFiles>(
+    alloc: Global,
+    files: &mut F,
     stage: &Stage,
     plan: &Plan,
 ) -> Result<PathEntries, Fault>
     requires ready { IsReady stage.now }
     requires plan { IsPlan stage.now plan.now }
-    requires files { IsTrue W.tells →
-        AllByRecursion (IsFileAt (W.history world.old).present.tree) (stage_outs stage.now) }
-    ensures named { IsTrue W.tells → IfOk result (λ outs.
-        named_paths (W.history world.old).present.tree stage.now.dir (job_of stage.now).outs ≡ Some outs) }
+    requires files { IsTrue F.tells →
+        AllByRecursion (IsFileAt (F.history files.old).present.tree) (stage_outs stage.now) }
+    ensures named { IsTrue F.tells → IfOk result (λ outs.
+        named_paths (F.history files.old).present.tree stage.now.dir (job_of stage.now).outs ≡ Some outs) }
     ensures sized { IfOk result AreSized }
-    ensures unchanged { IsTrue W.tells → W.history world.new ≡ W.history world.old }
-    ensures refused { IfErr result (IsGoneFault W.tells) }
-    ensures kinds { IsRunFault W.tells (fault_in result) }
-    ensures cause { IsCounted (W.faults world.old) (W.faults world.new) (IsErrOf result WorldFault) }
+    ensures unchanged { IsTrue F.tells → F.history files.new ≡ F.history files.old }
+    // A file that was found is gone only over a world that doesn't tell its tree.
+    ensures there { IsTrue F.tells → MayBe name_kinds (fault_in result) }
+    ensures told { TellsOwn stage.now (fault_in result) }
+    ensures kinds { MayBe run_kinds (fault_in result) }
+    ensures honest { IsHonest F.tells (fault_in result) }
+    ensures cause { IsCaused (F.faults files.old) (F.faults files.new) (IsErrOf result WorldFault) }
 {
     let paths = plan.outs.as_slice();
-    match name_paths(alloc, world, &stage.dir, plan.job.outs.as_slice(), paths)? {
+    match name_paths(alloc, files, &stage.dir, plan.job.outs.as_slice(), paths)? {
         Found::Names(outs) => Ok(outs),
         Found::Gap(at) => Err(Fault::MissingOutput {
             stage: stage.name.copy(alloc)?,

@@ -1,21 +1,24 @@
 // What a turn sees before it chooses: the names of the dependencies, and the stage's present entry.
-ghost use Rattle.std.specs.Prelude.{◌≡◌, IsTrue, IfOk, IfErr, IsErrOf, Some, None};
+ghost use Rattle.std.specs.Prelude.{◌≡◌, IsTrue, IfOk, IsErrOf, Some};
 ghost use Rattle.dvc_base.specs.declared.fault.Fault.TheVariants.{WorldFault};
-ghost use Rattle.repro_core.specs.Stage.{job_of, dep_paths, IsReady};
-ghost use Rattle.repro_core.specs.Due.{dep_fault};
-ghost use Rattle.repro_core.specs.Entries.{named_paths, present_entry};
-ghost use Rattle.repro_core.specs.Answer.{fault_in, IsAnswer, IsCounted};
-ghost use Rattle.repro_core.specs.Moments.{AreSized};
-ghost use Rattle.repro_core.specs.Steps.{IsPlan, IsNameFault, IsGoneFault, IsSeeFault, IsSeen};
+ghost use Rattle.repro_laws.specs.Stage.{job_of, dep_paths, stage_outs, IsReady};
+ghost use Rattle.repro_laws.specs.Due.{dep_fault};
+ghost use Rattle.repro_laws.specs.Entries.{named_paths, present_entry};
+ghost use Rattle.dvc_base.specs.Answer.{fault_in, IsAnswer};
+ghost use Rattle.world_api.specs.History.{IsCaused};
+ghost use Rattle.repro_laws.specs.Moments.{AreSized};
+ghost use Rattle.dvc_base.specs.Fault.{MayBe, IsHonest};
+ghost use Rattle.repro_core.specs.Steps.{IsPlan, IsSeen, name_kinds, see_kinds};
+ghost use Rattle.repro_core.specs.Telling.{TellsOwn, ChangesIn};
 
-use crate::Stage;
 use crate::looks::look_at_deps;
 use crate::names::{Found, name_paths};
 use crate::plan::Plan;
 use dvc_base::{Fault, Plain};
 use lock_files::{Entry, PathEntries};
+use repro_laws::Stage;
 use std::alloc::Global;
-use world_api::World;
+use world_api::ReadFiles;
 
 /// What stands at a stage's paths, by name.
 #[derive(Drop)]
@@ -25,78 +28,87 @@ pub(crate) struct Seen {
     pub(crate) present: Option<Entry>,
 }
 
-/// Looks at a stage's dependencies and names them, and then its outputs. The first dependency that isn't a file is
-/// refused, in the order in which they are written.
-pub(crate) fn see<W: World>(
+/// Names a stage's dependencies, and then its outputs. The first dependency that isn't a file is refused, in the order in
+/// which they are written.
+pub(crate) fn see<F: ReadFiles>(
     alloc: Global,
-    world: &mut W,
+    files: &mut F,
     stage: &Stage,
     plan: &Plan,
 ) -> Result<Seen, Fault>
     requires ready { IsReady stage.now }
     requires plan { IsPlan stage.now plan.now }
-    ensures answer { IsTrue W.tells → IsAnswer (fault_in result)
-        (dep_fault stage.now.name (W.history world.old).present.tree (dep_paths stage.now)) }
-    ensures seen { IsTrue W.tells → IfOk result (IsSeen stage.now (W.history world.old).present.tree) }
+    ensures answer { IsTrue F.tells → IsAnswer (fault_in result)
+        (dep_fault stage.now.name (F.history files.old).present.tree (dep_paths stage.now)) }
+    ensures seen { IsTrue F.tells → IfOk result (IsSeen stage.now (F.history files.old).present.tree) }
     ensures sized { IfOk result (λ seen. AreSized seen.deps) }
-    ensures unchanged { IsTrue W.tells → W.history world.new ≡ W.history world.old }
-    ensures kinds { IsSeeFault W.tells (fault_in result) }
-    ensures cause { IsCounted (W.faults world.old) (W.faults world.new) (IsErrOf result WorldFault) }
+    ensures unchanged { IsTrue F.tells → F.history files.new ≡ F.history files.old }
+    ensures told { TellsOwn stage.now (fault_in result) }
+    ensures kinds { MayBe see_kinds (fault_in result) }
+    ensures honest { IsHonest F.tells (fault_in result) }
+    ensures cause { IsCaused (F.faults files.old) (F.faults files.new) (IsErrOf result WorldFault) }
 {
-    look_at_deps(alloc, world, &stage.name, plan.looks.as_slice())?;
-    let deps = name_deps(alloc, world, stage, plan)?;
-    let present = present_entry(alloc, world, stage, plan, &deps)?;
+    let deps = name_deps(alloc, files, stage, plan)?;
+    let present = present_entry(alloc, files, stage, plan, &deps)?;
     Ok(Seen { deps, present })
 }
 
-// The names of dependencies that are files.
-fn name_deps<W: World>(
+// The names of the dependencies. They are named in the job's order; where one isn't a file they are looked at as they are
+// written, so that the first is refused.
+fn name_deps<F: ReadFiles>(
     alloc: Global,
-    world: &mut W,
+    files: &mut F,
     stage: &Stage,
     plan: &Plan,
 ) -> Result<PathEntries, Fault>
     requires plan { IsPlan stage.now plan.now }
-    requires files { IsTrue W.tells →
-        dep_fault stage.now.name (W.history world.old).present.tree (dep_paths stage.now) ≡ None }
-    ensures named { IsTrue W.tells → IfOk result (λ deps.
-        named_paths (W.history world.old).present.tree stage.now.dir (job_of stage.now).deps ≡ Some deps) }
+    ensures answer { IsTrue F.tells → IsAnswer (fault_in result)
+        (dep_fault stage.now.name (F.history files.old).present.tree (dep_paths stage.now)) }
+    ensures named { IsTrue F.tells → IfOk result (λ deps.
+        named_paths (F.history files.old).present.tree stage.now.dir (job_of stage.now).deps ≡ Some deps) }
     ensures sized { IfOk result AreSized }
-    ensures unchanged { IsTrue W.tells → W.history world.new ≡ W.history world.old }
-    ensures refused { IfErr result (IsGoneFault W.tells) }
-    ensures kinds { IsSeeFault W.tells (fault_in result) }
-    ensures cause { IsCounted (W.faults world.old) (W.faults world.new) (IsErrOf result WorldFault) }
+    ensures unchanged { IsTrue F.tells → F.history files.new ≡ F.history files.old }
+    ensures told { TellsOwn stage.now (fault_in result) }
+    ensures kinds { MayBe see_kinds (fault_in result) }
+    ensures honest { IsHonest F.tells (fault_in result) }
+    ensures cause { IsCaused (F.faults files.old) (F.faults files.new) (IsErrOf result WorldFault) }
 {
     let paths = plan.deps.as_slice();
-    match name_paths(alloc, world, &stage.dir, plan.job.deps.as_slice(), paths)? {
+    match name_paths(alloc, files, &stage.dir, plan.job.deps.as_slice(), paths)? {
         Found::Names(deps) => Ok(deps),
-        Found::Gap(at) => Err(Fault::MissingDependency {
-            stage: stage.name.copy(alloc)?,
-            path: paths[at].copy(alloc)?,
-        }),
+        Found::Gap(at) => {
+            look_at_deps(alloc, files, &stage.name, plan.looks.as_slice())?;
+            // All are files after all: only over a world that doesn't tell its tree.
+            Err(Fault::MissingDependency {
+                stage: stage.name.copy(alloc)?,
+                path: paths[at].copy(alloc)?,
+            })
+        }
     }
 }
 
 // The entry that the stage has, by the names of its dependencies; none where an output isn't a file.
-fn present_entry<W: World>(
+fn present_entry<F: ReadFiles>(
     alloc: Global,
-    world: &mut W,
+    files: &mut F,
     stage: &Stage,
     plan: &Plan,
     deps: &PathEntries,
 ) -> Result<Option<Entry>, Fault>
     requires ready { IsReady stage.now }
     requires plan { IsPlan stage.now plan.now }
-    requires named { IsTrue W.tells →
-        named_paths (W.history world.old).present.tree stage.now.dir (job_of stage.now).deps ≡ Some deps.now }
-    ensures present { IsTrue W.tells → IfOk result (λ entry.
-        present_entry stage.now (W.history world.old).present.tree ≡ entry) }
-    ensures unchanged { IsTrue W.tells → W.history world.new ≡ W.history world.old }
-    ensures refused { IfErr result (IsNameFault W.tells) }
-    ensures cause { IsCounted (W.faults world.old) (W.faults world.new) (IsErrOf result WorldFault) }
+    requires named { IsTrue F.tells →
+        named_paths (F.history files.old).present.tree stage.now.dir (job_of stage.now).deps ≡ Some deps.now }
+    ensures present { IsTrue F.tells → IfOk result (λ entry.
+        present_entry stage.now (F.history files.old).present.tree ≡ entry) }
+    ensures unchanged { IsTrue F.tells → F.history files.new ≡ F.history files.old }
+    ensures told { ChangesIn (stage_outs stage.now) (fault_in result) }
+    ensures kinds { MayBe name_kinds (fault_in result) }
+    ensures honest { IsHonest F.tells (fault_in result) }
+    ensures cause { IsCaused (F.faults files.old) (F.faults files.new) (IsErrOf result WorldFault) }
 {
     let outs = plan.outs.as_slice();
-    match name_paths(alloc, world, &stage.dir, plan.job.outs.as_slice(), outs)? {
+    match name_paths(alloc, files, &stage.dir, plan.job.outs.as_slice(), outs)? {
         Found::Names(outs) => Ok(Some(Entry {
             commands: stage.commands.copy(alloc)?,
             deps: deps.copy(alloc)?,

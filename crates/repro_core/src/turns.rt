@@ -3,20 +3,24 @@ ghost use Rattle.std.specs.Prelude.{◌≡◌, [], IsTrue, IfSome, IfErr, OnOk, 
 ghost use Rattle.std.specs.List.{AllByRecursion};
 ghost use Rattle.dvc_base.specs.declared.fault.Fault.TheVariants.{WorldFault, OutFault};
 ghost use Rattle.world_api.specs.Tree.{Tree};
-ghost use Rattle.world_api.specs.History.{Passes};
+ghost use Rattle.world_api.specs.History.{Passes, IsCaused};
 ghost use Rattle.world_api.specs.Writes.{CanWrite};
-ghost use Rattle.repro_core.specs.Due.{report, jobs};
-ghost use Rattle.repro_core.specs.Choices.{due, fault_of};
-ghost use Rattle.repro_core.specs.Answer.{fault_in, IsAnswer, Gains, IsCounted, IsCode, IsTurnFault};
-ghost use Rattle.repro_core.specs.Turns.{standing};
-ghost use Rattle.repro_core.specs.Headline.{IsPlanned, LeavesAnew};
-ghost use Rattle.repro_core.specs.Moments.{lock_path, is_record, InTurns};
-ghost use Rattle.repro_core.specs.Sound.{lock_of, IsRecordable, IsSafe, IsStopped, IsReport};
+ghost use Rattle.repro_laws.specs.Due.{report, jobs};
+ghost use Rattle.repro_laws.specs.Choices.{due, fault_of};
+ghost use Rattle.dvc_base.specs.Fault.{MayBe, IsHonest};
+ghost use Rattle.repro_core.specs.Steps.{turn_kinds};
+ghost use Rattle.repro_core.specs.Telling.{TellsOfOne};
+ghost use Rattle.dvc_base.specs.Answer.{fault_in, IsAnswer, Gains};
+ghost use Rattle.repro_laws.specs.Turns.{standing};
+ghost use Rattle.repro_laws.specs.Headline.{IsPlanned, LeavesAnew};
+ghost use Rattle.repro_laws.specs.Moments.{is_record, InTurns};
+ghost use Rattle.world_api.specs.Layout.{lock_path};
+ghost use Rattle.repro_laws.specs.Sound.{lock_of, IsRecordable, IsSafe, IsStopped, IsReport};
 
-use crate::Stage;
 use crate::turn::run_stage;
 use dvc_base::Fault;
 use lock_files::LockBook;
+use repro_laws::Stage;
 use std::alloc::Global;
 use world_api::{Sink, World};
 
@@ -78,10 +82,12 @@ pub fn repro<W: World, K: Sink>(
         (W.history world.old) (W.history world.new)) }
 
     // The outside is blamed only where it has counted a failure.
-    ensures world_cause { IsCounted (W.faults world.old) (W.faults world.new) (IsErrOf result WorldFault) }
-    ensures out_cause { IsCounted (K.faults out.old) (K.faults out.new) (IsErrOf result OutFault) }
-    ensures code { IsCode (fault_in result) }
-    ensures kinds { IsTurnFault W.tells (fault_in result) }
+    ensures world_cause { IsCaused (W.faults world.old) (W.faults world.new) (IsErrOf result WorldFault) }
+    ensures out_cause { IsCaused (K.faults out.old) (K.faults out.new) (IsErrOf result OutFault) }
+    // What a refusal tells of is one of the stages, and its own.
+    ensures told { IfErr result (λ fault. TellsOfOne stages.now (Some fault)) }
+    ensures kinds { MayBe turn_kinds (fault_in result) }
+    ensures honest { IsHonest W.tells (fault_in result) }
 {
     for stage in stages {
         run_stage(alloc, world, lock, stage, out)?;

@@ -1,18 +1,18 @@
 -- Laws of replayed changes: what the last change does, that each moment has a tree, and what a list of changes passes.
-use Rattle.std.proofs.Common.{◌≡◌, ◌≢◌, Bool, true, not, ◌&&◌, List, [], ◌∷◌, ◌++◌, refl, sym, ap, ◌∙◌, inl, inr, append_assoc, subst, Result, Ok, Err, OnOk, OnErr, MatchResult, IsErr}
-use Rattle.std.specs.List.{AllByRecursion}
-use Rattle.std.proofs.lemmas.Bool.{false≢true, true≢false, not_from_true, not_from_false}
+use Rattle.std.proofs.Common.{◌≡◌, ◌≢◌, ℕ, ◌+◌, ◌-◌, ◌≤◌, ◌^◌, min, nat_lt, arith, Bool, true, not, ◌&&◌, List, [], ◌∷◌, ◌++◌, refl, sym, ap, ◌∙◌, inl, inr, subst, Result, Ok, Err, OnOk, MatchResult, IsErr}
+use Rattle.std.proofs.lemmas.Bool.{cond_both, false≢true, true≢false, not_from_true, not_from_false}
 use Rattle.dvc_base.specs.Path.{Path, under}
 use Rattle.world_api.specs.Tree.{Tree}
-use Rattle.world_api.specs.History.{Moment, History, Passes}
+use Rattle.world_api.specs.History.{Moment, History, Passes, HasCause, Rose}
 use Rattle.world_api.specs.Calls.{IsCleared, InClear}
 use Rattle.world_api.specs.declared.job.Job.{Job}
-use Rattle.world_api.proofs.HistoryLemmas.{keeps_itself, stays_itself}
+use Rattle.world_api.proofs.HistoryLemmas.{keeps_itself, stays_itself, passes_none, passes_same, passes_then}
 use Rattle.world_api.proofs.TreeLemmas.{item_kept, item_gone}
 use Rattle.sim_world.specs.Applied.{tree_changed, jobs_changed, tree_after, jobs_after}
+use Rattle.sim_world.specs.Call.{Makes, IsSame, Counts, risen, Counted}
 use Rattle.sim_world.specs.Change.{changed, cleared, grown, replay}
 use Rattle.sim_world.specs.declared.change.Change.{Change}
-use Rattle.sim_world.specs.declared.change.Change.TheVariants.{Edited, Cleared, Loosened, Left, Ran, FolderMade, Written, Settled, Published}
+use Rattle.sim_world.specs.declared.change.Change.TheVariants.{Edited, Cleared, Started, Left, Ran, FolderMade, Written, Settled, Published}
 
 pub replay-append : (h : History) (cs ds : List Change) → replay h (cs ++ ds) ≡ replay (replay h cs) ds
 replay-append h [] ds = refl
@@ -32,24 +32,24 @@ jobs_after-push jobs (d ∷ cs) c = jobs_after-push (jobs_changed d jobs) cs c
 changed_tree : (c : Change) (m : Moment) → (changed c m).tree ≡ tree_changed c m.tree
 changed_tree (Edited at value) m = refl
 changed_tree (Cleared at) m = refl
-changed_tree (Loosened at) m = refl
+changed_tree (Started job) m = refl
 changed_tree (Left at value) m = refl
 changed_tree (Ran job) m = refl
 changed_tree (FolderMade at) m = refl
-changed_tree (Written at value) m = refl
-changed_tree (Settled at) m = refl
-changed_tree (Published origin at value) m = refl
+changed_tree (Written lane value) m = refl
+changed_tree (Settled lane) m = refl
+changed_tree (Published lane at value) m = refl
 
 changed_jobs : (c : Change) (m : Moment) → (changed c m).aside.fixed.ran ≡ jobs_changed c m.aside.fixed.ran
 changed_jobs (Edited at value) m = refl
 changed_jobs (Cleared at) m = refl
-changed_jobs (Loosened at) m = refl
+changed_jobs (Started job) m = refl
 changed_jobs (Left at value) m = refl
 changed_jobs (Ran job) m = refl
 changed_jobs (FolderMade at) m = refl
-changed_jobs (Written at value) m = refl
-changed_jobs (Settled at) m = refl
-changed_jobs (Published origin at value) m = refl
+changed_jobs (Written lane value) m = refl
+changed_jobs (Settled lane) m = refl
+changed_jobs (Published lane at value) m = refl
 
 pub replay_tree : (h : History) (cs : List Change) → (replay h cs).present.tree ≡ tree_after h.present.tree cs
 replay_tree h [] = refl
@@ -63,26 +63,31 @@ replay_jobs h (c ∷ cs) =
 
 -- ---- what is passed
 
-all-append : (P : Moment → Type 0) (ms ns : List Moment) → AllByRecursion P ms → AllByRecursion P ns → AllByRecursion P (ms ++ ns)
-all-append P [] ns a b = b
-all-append P (m ∷ ms) ns a b = (a.0, all-append P ms ns a.1 b)
-
 -- each moment on the way of the changes has P
 abbrev pub Along : (Moment → Type 0) → Moment → List Change → Type 0
 Along P m [] = P m
 Along P m (c ∷ cs) = P m × Along P (changed c m) cs
 
+along_start : (P : Moment → Type 0) (m : Moment) (cs : List Change) → Along P m cs → P m
+along_start P m [] along = along
+along_start P m (c ∷ cs) along = along.0
+
+pub passes_one : (P : Moment → Type 0) (h : History) (change : Moment → Moment) → P h.present → P (change h.present) → Passes P h (grown change h)
+passes_one P h change before after = record {
+  since = h.present ∷ [];
+  grown = refl;
+  start = inr ([], refl);
+  each = (before, tt);
+  under = ([], refl);
+  now = after;
+}
+
 pub passes_along : (P : Moment → Type 0) (h : History) (cs : List Change) → Along P h.present cs → Passes P h (replay h cs)
-passes_along P h [] along = record { since = []; grown = refl; each = tt; under = ([], refl); now = along }
+passes_along P h [] along = passes_none P h along
 passes_along P h (c ∷ cs) along =
-    let rest : Passes P (grown (changed c) h) (replay (grown (changed c) h) cs) = passes_along P (grown (changed c) h) cs along.1 in
-    record {
-      since = rest.since ++ h.present ∷ [];
-      grown = rest.grown ∙ sym (append_assoc rest.since (h.present ∷ []) h.past);
-      each = all-append P rest.since (h.present ∷ []) rest.each (along.0, tt);
-      under = rest.under;
-      now = rest.now;
-    }
+    passes_then P h (grown (changed c) h) (replay (grown (changed c) h) cs)
+    (passes_one P h (changed c) along.0 (along_start P (changed c h.present) cs along.1))
+    (passes_along P (grown (changed c) h) cs along.1)
 
 -- ---- a clear
 
@@ -116,30 +121,52 @@ clear_done at m ne = record {
   };
 }
 
-pub clear_none : (at : Path) (h : History) → Passes (InClear at h.present) h h
-clear_none at h = passes_along (InClear at h.present) h [] (clear_still at h.present)
+-- ---- a call of one change
 
-pub clear_one : (at : Path) (h : History) → at ≢ [] → Passes (InClear at h.present) h (grown (cleared at) h)
-clear_one at h ne = passes_along (InClear at h.present) h (Cleared at ∷ []) (clear_still at h.present, clear_done at h.present ne)
+pub one_passes : {T E : Type 0} (r : Result T E) (P : Moment → Type 0) (change : Moment → Moment) (h h' : History) → P h.present → P (change h.present) → Makes r (grown change) IsSame h h' → Passes P h h'
+one_passes (Ok x) P change h h' before after made = subst (λ (k : History). Passes P h k) (sym made) (passes_one P h change before after)
+one_passes (Err x) P change h h' before after made = passes_same P h h' made before
+
+pub one_left : {T E : Type 0} (r : Result T E) (P : Moment → Type 0) (change : Moment → Moment) (h h' : History) → P (change h.present) → Makes r (grown change) IsSame h h' → OnOk r (P h'.present)
+one_left (Ok x) P change h h' after made = subst (λ (k : History). P k.present) (sym made) after
+one_left (Err x) P change h h' after made = tt
+
+pub makes_part : {T E : Type 0} (r : Result T E) (make : History → History) (Part : History → History → Type 0) (old new : History) → IsErr r → Part old new → Makes r make Part old new
+makes_part (Ok x) make Part old new e part = absurd (false≢true e)
+makes_part (Err x) make Part old new e part = part
 
 -- ---- an answer that was counted
 
-ok_from : {T E P : Type 0} (q : Result T E) → P → OnOk q P
-ok_from (Ok x) p = p
-ok_from (Err e) p = tt
+-- what the call made, where the call inside answered the same
+pub makes_counted : {T E F : Type 0} (r : Result T E) (q : Result T F) (make : History → History) (Part : History → History → Type 0) (old new : History) → MatchResult r (λ value. q ≡ Ok value) (λ _. IsErr q) → Makes r make Part old new → Makes q make Part old new
+makes_counted (Ok x) q make Part old new same made = subst (λ a. Makes a make Part old new) (sym same) made
+makes_counted (Err e) (Ok x) make Part old new same made = absurd (false≢true same)
+makes_counted (Err e) (Err f) make Part old new same made = made
 
-no_ok : {T E : Type 0} (P : Type 0) (q : Result T E) → IsErr q → OnOk q P
-no_ok P (Ok x) e = absurd (false≢true e)
-no_ok P (Err x) e = tt
+later : (n : ℕ) → n ≤ risen n
+later n = cond_both (nat_lt n (2 ^ 64 - 1)) (n + 1) n (λ k. n ≤ k) (λ _. omega arith) (λ _. omega arith)
 
-pub counted_ok : {T E F : Type 0} (P : Type 0) (r : Result T E) (q : Result T F) (Counted : T → Type 0) (Rest : Type 0) → OnOk r P → MatchResult r Counted (λ _. IsErr q × Rest) → OnOk q P
-counted_ok P (Ok x) q Counted Rest p m = ok_from q p
-counted_ok P (Err e) q Counted Rest p m = no_ok P q m.0
+rose : (n : ℕ) → Rose n (risen n)
+rose n =
+    cond_both (nat_lt n (2 ^ 64 - 1)) (n + 1) n (λ k. min (n + 1) (2 ^ 64 - 1) ≤ k) (λ _. omega arith)
+    (λ e. grind (arith, e))
 
-pub clear_passes : {T E : Type 0} (r : Result T E) (at : Path) (h h' : History) → at ≢ [] → OnOk r (h' ≡ grown (cleared at) h) → OnErr r (h' ≡ h) → Passes (InClear at h.present) h h'
-clear_passes (Ok x) at h h' ne ok err = subst (λ (k : History). Passes (InClear at h.present) h k) (sym ok) (clear_one at h ne)
-clear_passes (Err e) at h h' ne ok err = subst (λ (k : History). Passes (InClear at h.present) h k) (sym err) (clear_none at h)
+pub counted_cause : {T E : Type 0} (r : Result T E) (before now : Counts) → Counted r before now → HasCause (record { origin = []; count = before.failed }) (record { origin = []; count = now.failed }) r
+counted_cause (Ok x) before now same = record {
+  same = refl;
+  later = subst (λ (c : Counts). before.failed ≤ c.failed) (sym same) (omega arith);
+  cause = λ e. absurd (false≢true e);
+}
+counted_cause (Err x) before now more = record {
+  same = refl;
+  later = subst (λ (c : Counts). before.failed ≤ c.failed) (sym more) (later before.failed);
+  cause = λ e. subst (λ (c : Counts). Rose before.failed c.failed) (sym more) (rose before.failed);
+}
 
-pub clear_cleared : {T E : Type 0} (r : Result T E) (at : Path) (h h' : History) → at ≢ [] → OnOk r (h' ≡ grown (cleared at) h) → OnOk r (IsCleared at h'.present)
-clear_cleared (Ok x) at h h' ne ok = subst (λ (k : History). IsCleared at k.present) (sym ok) (is_cleared at h.present ne)
-clear_cleared (Err e) at h h' ne ok = tt
+-- ---- a clear
+
+pub clear_passes : {T E : Type 0} (r : Result T E) (at : Path) (h h' : History) → at ≢ [] → Makes r (grown (cleared at)) IsSame h h' → Passes (InClear at h.present) h h'
+clear_passes r at h h' ne made = one_passes r (InClear at h.present) (cleared at) h h' (clear_still at h.present) (clear_done at h.present ne) made
+
+pub clear_cleared : {T E : Type 0} (r : Result T E) (at : Path) (h h' : History) → at ≢ [] → Makes r (grown (cleared at)) IsSame h h' → OnOk r (IsCleared at h'.present)
+clear_cleared r at h h' ne made = one_left r (IsCleared at) (cleared at) h h' (is_cleared at h.present ne) made

@@ -3,6 +3,7 @@ pub mod ChangeLemmas
 pub mod EditLemmas
 pub mod EntryLemmas
 pub mod LogLemmas
+pub mod MetLemmas
 pub mod PipeLemmas
 pub mod RunLemmas
 pub mod WritingLemmas

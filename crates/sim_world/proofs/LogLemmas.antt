@@ -4,6 +4,7 @@ use Rattle.world_api.specs.Tree.{Tree}
 use Rattle.world_api.specs.Effect.{Effect}
 use Rattle.world_api.specs.declared.job.Job.{Job}
 use Rattle.sim_world.specs.Applied.{tree_changed, jobs_changed, tree_after, jobs_after}
+use Rattle.sim_world.specs.Call.{Makes, IsSame}
 use Rattle.sim_world.specs.Change.{changed, grown, history_of, opened}
 use Rattle.sim_world.specs.declared.change.Change.{Change}
 use Rattle.sim_world.proofs.ChangeLemmas.{tree_after-push, jobs_after-push, replay-push, replay_tree, replay_jobs}
@@ -18,10 +19,10 @@ jobs_kept (Ok x) old new log log' c was l _ t _ =
     t ∙ ap (jobs_changed c) was ∙ sym (jobs_after-push [] log c) ∙ ap (jobs_after []) (sym l)
 jobs_kept (Err x) old new log log' c was _ l _ t = t ∙ was ∙ ap (jobs_after []) (sym l)
 
-pub history_grown : {T E : Type 0} (r : Result T E) (effect : Effect) (start : Tree) (log log' : List Change) (c : Change) → OnOk r (log' ≡ log ++ c ∷ []) → OnOk r (history_of effect start log' ≡ grown (changed c) (history_of effect start log))
-history_grown (Ok x) effect start log log' c l =
-    ap (history_of effect start) l ∙ replay-push (record { present = opened effect start; past = []; under = [] }) log c
-history_grown (Err x) effect start log log' c l = tt
+pub history_made : {T E : Type 0} (r : Result T E) (effect : Effect) (start : Tree) (log log' : List Change) (c : Change) → OnOk r (log' ≡ log ++ c ∷ []) → OnErr r (log' ≡ log) → Makes r (grown (changed c)) IsSame (history_of effect start log) (history_of effect start log')
+history_made (Ok x) effect start log log' c more same =
+    ap (history_of effect start) more ∙ replay-push (record { present = opened effect start; past = []; under = [] }) log c
+history_made (Err x) effect start log log' c more same = ap (history_of effect start) same
 
 pub present_tree : (effect : Effect) (start : Tree) (log : List Change) → (history_of effect start log).present.tree ≡ tree_after start log
 present_tree effect start log = replay_tree (record { present = opened effect start; past = []; under = [] }) log

@@ -1,25 +1,28 @@
 -- What the changes of a run leave, and what they pass on the way.
-use Rattle.std.proofs.Common.{◌≡◌, ◌≢◌, ℕ, ◌+◌, ◌<◌, ℤ, pos, Bool, true, false, cond, not, ◌||◌, List, [], ◌∷◌, ◌++◌, length, take, drop, get_or, map, refl, sym, ap, ◌∙◌, subst, inl, inr, arith, Option, Some, Ok, Err, Result, OnErr, IfSome}
+use Rattle.std.proofs.Common.{◌≡◌, ◌≢◌, ℕ, ◌+◌, ◌<◌, ℤ, pos, Bool, true, false, cond, not, ◌||◌, List, [], ◌∷◌, ◌++◌, length, take, drop, get_or, map, refl, sym, ap, ◌∙◌, subst, inl, inr, arith, append_assoc, Option, Some, Ok, Err, Result, OnErr, IfOk, IsErr, MatchResult, IfSome}
+use Rattle.std.specs.Prelude.{⊤}
 use Rattle.std.specs.List.{AllByRecursion}
 use Rattle.std.specs.Ordering.{int_eq}
 use Rattle.std.specs.Cmp.{signed_Decides}
 use Rattle.std.proofs.lemmas.Bool.{false≢true, and_parts, or_left, or_right, or_parts, not-true, not_from_true, not_from_false, false_from_ne_true}
-use Rattle.std.proofs.lemmas.List.{take_more, take-append-drop, drop_more, append-nil, length-append}
+use Rattle.std.proofs.lemmas.List.{take_more, take-append-drop, drop_more, append-nil, length-append, map-append}
 use Rattle.dvc_base.specs.Path.{Path, under, overlap}
 use Rattle.dvc_base.proofs.PathLemmas.{under-refl, under-trans}
 use Rattle.world_api.specs.Tree.{Tree, folder, file, Value as Told, value_at, value_of, item_at}
 use Rattle.world_api.specs.Effect.{Effect, fails, gives, path_from, out_paths, invocation_of, is_in_any, given_values}
 use Rattle.world_api.specs.History.{Moment, History, Passes, KeepsPaths, Stays, itself, ran_too}
-use Rattle.world_api.specs.Calls.{parent, is_apart, are_apart, is_runnable, HasFolders, Meets, IsRun, InRun}
+use Rattle.world_api.specs.Calls.{parent, is_apart, are_apart, is_runnable, HasFolders, Meets, nowhere, HasLooseOuts, IsRun, InRun}
 use Rattle.world_api.specs.declared.job.Job.{Job}
-use Rattle.world_api.proofs.HistoryLemmas.{stays_itself, stays_then}
+use Rattle.world_api.specs.declared.job.Exit.{Exit}
+use Rattle.world_api.proofs.HistoryLemmas.{stays_itself, stays_then, keeps_paths_itself, passes_none, passes_same}
 use Rattle.world_api.proofs.TreeLemmas.{item_kept, item_gone, item_put_same, item_put_other, under_parent, cons_not_root}
 use Rattle.sim_world.specs.Answer.{told, plain_value, plain_values, found, found_all, answered, outcome_of, effect_of, unmade}
 use Rattle.sim_world.specs.Applied.{tree_changed, tree_after}
 use Rattle.sim_world.specs.Book.{with_met}
-use Rattle.sim_world.specs.Change.{changed, grown, replay, history_of, opened, with_job, IsFront}
+use Rattle.sim_world.specs.Call.{Makes, IsSame}
+use Rattle.sim_world.specs.Change.{changed, grown, replay, history_of, opened, started, with_job, IsFront}
 use Rattle.sim_world.specs.Edits.{without, left_tree, place, has_place}
-use Rattle.sim_world.specs.Run.{loosened_outs, left_outs, out_changes, run_changes}
+use Rattle.sim_world.specs.Run.{left_outs, out_changes, run_changes, Answers, RunsBy}
 use Rattle.sim_world.specs.Stands.{has_place-from}
 use Rattle.sim_world.specs.Step.{Step}
 use Rattle.sim_world.specs.declared.value.Value.{Value}
@@ -28,7 +31,7 @@ use Rattle.sim_world.specs.declared.value.PathValue.{PathValue}
 use Rattle.sim_world.specs.declared.rule.Given.{Given}
 use Rattle.sim_world.specs.declared.rule.Made.{Made}
 use Rattle.sim_world.specs.declared.change.Change.{Change}
-use Rattle.sim_world.specs.declared.change.Change.TheVariants.{Edited, Cleared, Loosened, Left, Ran, FolderMade, Written, Settled, Published}
+use Rattle.sim_world.specs.declared.change.Change.TheVariants.{Edited, Cleared, Started, Left, Ran, FolderMade, Written, Settled, Published}
 use Rattle.sim_world.proofs.BookLemmas.{stays_met}
 use Rattle.sim_world.proofs.ChangeLemmas.{Along, passes_along, replay-push, replay_tree}
 
@@ -39,46 +42,85 @@ plain_given-push t dir [] d = refl
 plain_given-push t dir (e ∷ ds) d =
     ap (λ (x : List PathValue). record { path = e; value = plain_value (value_at t (path_from dir e)) } ∷ x) (plain_given-push t dir ds d)
 
-pub values_step : (t : Tree) (dir : Path) (texts : List (List ℕ)) (i : ℕ) (text : List ℕ) (values new : List PathValue) (path : List ℕ) (value : Value) (at : Path) → i < length texts → text ≡ get_or texts i text → values ≡ plain_values (given_values t dir (take i texts)) → new ≡ values ++ record { path = path; value = value } ∷ [] → path ≡ text → value ≡ plain_value (value_at t at) → at ≡ path_from dir text → new ≡ plain_values (given_values t dir (take (i + 1) texts))
-values_step t dir texts i text values new path value at l is was made p v a =
+pub values_step : (t : Tree) (dir : Path) (texts : List (List ℕ)) (i : ℕ) (text : List ℕ) (values new : List PathValue) → i < length texts → text ≡ get_or texts i text → values ≡ plain_values (given_values t dir (take i texts)) → new ≡ values ++ record { path = text; value = plain_value (value_at t (path_from dir text)) } ∷ [] → new ≡ plain_values (given_values t dir (take (i + 1) texts))
+values_step t dir texts i text values new l is was made =
     let cut : take (i + 1) texts ≡ take i texts ++ text ∷ [] =
     take_more texts i text l ∙ ap (λ (x : List ℕ). take i texts ++ x ∷ []) (sym is) in
-    let entry : ◌≡◌ {A = PathValue} (record { path = path; value = value }) (record { path = text; value = plain_value (value_at t (path_from dir text)) }) =
-    λ j. record { path = p j; value = (v ∙ ap (λ (x : Path). plain_value (value_at t x)) a) j } in
-    made ∙ (λ j. was j ++ entry j ∷ []) ∙ sym (plain_given-push t dir (take i texts) text) ∙ ap (λ (x : List (List ℕ)). plain_values (given_values t dir x)) (sym cut)
+    made
+    ∙ ap (λ (x : List PathValue). x ++ record { path = text; value = plain_value (value_at t (path_from dir text)) } ∷ []) was
+    ∙ sym (plain_given-push t dir (take i texts) text)
+    ∙ ap (λ (x : List (List ℕ)). plain_values (given_values t dir x)) (sym cut)
 
-pub err_from : {T E P : Type 0} (r : Result T E) → P → OnErr r P
-err_from (Ok x) p = tt
-err_from (Err e) p = p
+-- ---- the changes of a run, made one after another
 
-pub front_at : (cs : List Change) (i : ℕ) (c : Change) (old new : History) → i < length cs → c ≡ get_or cs i c → new ≡ replay old (take i cs) → IsFront cs old new
-front_at cs i c old new l is made = record {
-  front = take i cs;
-  refused = c;
-  rest = drop (i + 1) cs;
-  parts = sym (take-append-drop i cs) ∙ ap (λ (x : List Change). take i cs ++ x) (drop_more cs i c l ∙ ap (λ (x : Change). x ∷ drop (i + 1) cs) (sym is));
-  made = made;
+pub left_step : (change : List ℕ → Change) (outs : List (List ℕ)) (i : ℕ) (out : List ℕ) (old was new : History) → i < length outs → out ≡ get_or outs i out → was ≡ replay old (map change (take i outs)) → new ≡ grown (changed (change out)) was → new ≡ replay old (map change (take (i + 1) outs))
+left_step change outs i out old was new l is made grew =
+    let cut : map change (take (i + 1) outs) ≡ map change (take i outs) ++ change out ∷ [] =
+    ap (map change) (take_more outs i out l ∙ ap (λ (x : List ℕ). take i outs ++ x ∷ []) (sym is)) ∙ map-append change (take i outs) (out ∷ []) in
+    grew ∙ ap (grown (changed (change out))) made ∙ sym (replay-push old (map change (take i outs)) (change out)) ∙ ap (replay old) (sym cut)
+
+pub left_front : (change : List ℕ → Change) (outs : List (List ℕ)) (i : ℕ) (out : List ℕ) (old was new : History) → i < length outs → out ≡ get_or outs i out → was ≡ replay old (map change (take i outs)) → new ≡ was → IsFront (map change outs) old new
+left_front change outs i out old was new l is made same =
+    let parts : outs ≡ take i outs ++ out ∷ drop (i + 1) outs =
+    sym (take-append-drop i outs) ∙ ap (λ (x : List (List ℕ)). take i outs ++ x) (drop_more outs i out l ∙ ap (λ (x : List ℕ). x ∷ drop (i + 1) outs) (sym is)) in
+    record {
+      front = map change (take i outs);
+      refused = change out;
+      rest = map change (drop (i + 1) outs);
+      parts = ap (map change) parts ∙ map-append change (take i outs) (out ∷ drop (i + 1) outs);
+      made = same ∙ made;
+    }
+
+-- one of those after the first was refused, and none of the last ones was tried
+pub front_amid : (c : Change) (cs ds : List Change) (old was new : History) → was ≡ grown (changed c) old → IsFront cs was new → IsFront (c ∷ (cs ++ ds)) old new
+front_amid c cs ds old was new first f = record {
+  front = c ∷ f.front;
+  refused = f.refused;
+  rest = f.rest ++ ds;
+  parts = ap (λ (x : List Change). c ∷ (x ++ ds)) f.parts ∙ ap (λ (x : List Change). c ∷ x) (append_assoc f.front (f.refused ∷ f.rest) ds);
+  made = f.made ∙ ap (λ (h : History). replay h f.front) first;
 }
 
-pub replay_step : (cs : List Change) (i : ℕ) (c : Change) (old was new : History) → i < length cs → c ≡ get_or cs i c → was ≡ replay old (take i cs) → new ≡ grown (changed c) was → new ≡ replay old (take (i + 1) cs)
-replay_step cs i c old was new l is made grew =
-    grew ∙ ap (grown (changed c)) made ∙ sym (replay-push old (take i cs) c) ∙ ap (replay old) (sym (take_more cs i c l ∙ ap (λ (x : Change). take i cs ++ x ∷ []) (sym is)))
+-- all but the last were made, and the last was made or refused
+pub made_last : {T E : Type 0} (r : Result T E) (c d : Change) (cs : List Change) (old was then new : History) → was ≡ grown (changed c) old → then ≡ replay was cs → Makes r (grown (changed d)) IsSame then new → Makes r (λ h. replay h (c ∷ (cs ++ d ∷ []))) (IsFront (c ∷ (cs ++ d ∷ []))) old new
+made_last (Ok x) c d cs old was then new first amid last =
+    last ∙ ap (grown (changed d)) (amid ∙ ap (λ (h : History). replay h cs) first) ∙ sym (replay-push (grown (changed c) old) cs d)
+made_last (Err x) c d cs old was then new first amid last = record {
+  front = c ∷ cs;
+  refused = d;
+  rest = [];
+  parts = refl;
+  made = last ∙ amid ∙ ap (λ (h : History). replay h cs) first;
+}
 
--- ---- quiet changes: those that reach the outputs alone
+-- ---- quiet changes: those that reach the outputs alone, which are loose
 
 record Quiet (job : Job) (m n : Moment) : Type 0 where
   paths : KeepsPaths (is_in_any (out_paths job)) m n
+  outs : HasLooseOuts job n
   aside : Stays itself m.aside n.aside
 
 quiet_in : (job : Job) (m n : Moment) → Quiet job m n → InRun job m n
-quiet_in job m n q = record { others = q.paths; aside = inl q.aside }
+quiet_in job m n q = record { others = q.paths; outs = inr q.outs; aside = inl q.aside }
 
-quiet_still : (job : Job) (m : Moment) → Quiet job m m
-quiet_still job m = record { paths = record { items = λ p e. refl; loose = λ p e. refl }; aside = stays_itself m.aside }
+run_still : (job : Job) (m : Moment) → InRun job m m
+run_still job m = record {
+  others = keeps_paths_itself (is_in_any (out_paths job)) m;
+  outs = inl (keeps_paths_itself nowhere m);
+  aside = inl (stays_itself m.aside);
+}
+
+quiet_started : (job : Job) (m : Moment) → Quiet job m (started job m)
+quiet_started job m = record {
+  paths = record { items = λ p e. refl; loose = λ p e. ap (λ (b : Bool). b || m.loose p) e };
+  outs = λ p u. ap (λ (b : Bool). b || m.loose p) u;
+  aside = stays_itself m.aside;
+}
 
 quiet_ran : (job : Job) (m n : Moment) → Quiet job m n → InRun job m (with_job job n)
 quiet_ran job m n q = record {
   others = record { items = q.paths.items; loose = q.paths.loose };
+  outs = inr q.outs;
   aside = inr (record { fixed = ap (ran_too job) q.aside.fixed; book = q.aside.book });
 }
 
@@ -105,21 +147,13 @@ left_other at value t p apart =
       | false ↦ refl
     ]
 
-quiet_loosened : (job : Job) (m : Moment) (at : Path) → IsOut job at → IsQuiet job m (Loosened at)
-quiet_loosened job m at out n q = record {
-  paths = record {
-    items = q.paths.items;
-    loose = λ p e. ap (λ (b : Bool). b || n.loose p) (outside job at p out e) ∙ q.paths.loose p e;
-  };
-  aside = q.aside;
-}
-
 quiet_left : (job : Job) (m : Moment) (at : Path) (value : Value) → IsOut job at → IsQuiet job m (Left at value)
 quiet_left job m at value out n q = record {
   paths = record {
     items = λ p e. left_other at value n.tree p (outside job at p out e) ∙ q.paths.items p e;
     loose = λ p e. ap (λ (b : Bool). b || n.loose p) (outside job at p out e) ∙ q.paths.loose p e;
   };
+  outs = λ p u. or_right (under at p) (n.loose p) (q.outs p u);
   aside = stays_then itself m.aside n.aside (with_met value n.aside) q.aside (stays_met value n.aside);
 }
 
@@ -130,22 +164,16 @@ all_quiet job m change quiet (o ∷ outs) sub = (
   all_quiet job m change quiet outs (λ p u. sub p (or_right (under (path_from job.dir o) p) (is_in_any (map (path_from job.dir) outs) p) u)),
 )
 
-all-append : (P : Change → Type 0) (xs ys : List Change) → AllByRecursion P xs → AllByRecursion P ys → AllByRecursion P (xs ++ ys)
-all-append P [] ys a b = b
-all-append P (x ∷ xs) ys a b = (a.0, all-append P xs ys a.1 b)
-
 all_front : (P : Change → Type 0) (xs ys : List Change) → AllByRecursion P (xs ++ ys) → AllByRecursion P xs
 all_front P [] ys a = tt
 all_front P (x ∷ xs) ys a = (a.0, all_front P xs ys a.1)
 
 quiet_outs : (job : Job) (m : Moment) (code : ℤ) (made : Made) → AllByRecursion (IsQuiet job m) (out_changes job code made)
 quiet_outs job m code made =
-    all-append (IsQuiet job m) (loosened_outs job) _
-    (all_quiet job m (λ at out. Loosened at) (λ at out is. quiet_loosened job m at is) job.outs (λ p u. u))
-    (elim (int_eq code (pos 0)) as (λ b. AllByRecursion (IsQuiet job m) (cond b (left_outs job made) [])) [
+    elim (int_eq code (pos 0)) as (λ b. AllByRecursion (IsQuiet job m) (cond b (left_outs job made) [])) [
       | true ↦ all_quiet job m (λ at out. Left at (found made.outs out)) (λ at out is. quiet_left job m at (found made.outs out) is) job.outs (λ p u. u)
       | false ↦ tt
-    ])
+    ]
 
 -- ---- along the changes
 
@@ -157,11 +185,14 @@ quiet_replay : (job : Job) (m : Moment) (h : History) (cs : List Change) → All
 quiet_replay job m h [] all q = q
 quiet_replay job m h (c ∷ cs) all q = quiet_replay job m (grown (changed c) h) cs all.1 (all.0 h.present q)
 
-pub run_passes : (job : Job) (code : ℤ) (made : Made) (h : History) → Passes (InRun job h.present) h (replay h (run_changes job code made))
+run_passes : (job : Job) (code : ℤ) (made : Made) (h : History) → Passes (InRun job h.present) h (replay h (run_changes job code made))
 run_passes job code made h =
-    passes_along (InRun job h.present) h (run_changes job code made)
-    (along_quiet job h.present h.present (out_changes job code made) (Ran job ∷ []) (quiet_outs job h.present code made) (quiet_still job h.present)
-    (λ k q. (quiet_in job h.present k q, quiet_ran job h.present k q)))
+    let m : Moment = h.present in
+    passes_along (InRun job m) h (run_changes job code made) (
+      run_still job m,
+      along_quiet job m (started job m) (out_changes job code made) (Ran job ∷ []) (quiet_outs job m code made) (quiet_started job m)
+          (λ k q. (quiet_in job m k q, quiet_ran job m k q)),
+    )
 
 -- what stands before the last of a list's items begins with any front that leaves an item out
 front_before : (front xs : List Change) (c r : Change) (rest : List Change) → xs ++ r ∷ [] ≡ front ++ c ∷ rest → (more : List Change) × (xs ≡ front ++ more)
@@ -172,23 +203,32 @@ front_before (f ∷ front) (x ∷ xs) c r rest e =
     let so = front_before front xs c r rest tail in
     (so.0, cc)
 
-front_quiet : (job : Job) (code : ℤ) (made : Made) (h : History) (cs : List Change) (new : History) → cs ≡ run_changes job code made → (f : IsFront cs h new) → AllByRecursion (IsQuiet job h.present) f.front
-front_quiet job code made h cs new e f =
-    let so = front_before f.front (out_changes job code made) f.refused (Ran job) f.rest (sym e ∙ f.parts) in
-    all_front (IsQuiet job h.present) f.front so.0 (subst (AllByRecursion (IsQuiet job h.present)) so.1 (quiet_outs job h.present code made))
+-- a front that was made: nothing, or the start and some of the outputs
+abbrev IsMadeFront : Job → Moment → List Change → Type 0
+IsMadeFront job m [] = ⊤
+IsMadeFront job m (c ∷ cs) = (c ≡ Started job) × AllByRecursion (IsQuiet job m) cs
 
-pub front_stays : (job : Job) (code : ℤ) (made : Made) (h : History) (cs : List Change) (new : History) → cs ≡ run_changes job code made → IsFront cs h new → Stays itself h.present.aside new.present.aside
-front_stays job code made h cs new e f =
-    let q = quiet_replay job h.present h f.front (front_quiet job code made h cs new e f) (quiet_still job h.present) in
-    subst (λ (k : History). Stays itself h.present.aside k.present.aside) (sym f.made) q.aside
+made_front : (job : Job) (code : ℤ) (made : Made) (m : Moment) (front : List Change) (refused : Change) (rest : List Change) → run_changes job code made ≡ front ++ refused ∷ rest → IsMadeFront job m front
+made_front job code made m [] refused rest e = tt
+made_front job code made m (f ∷ front) refused rest e =
+    let so = front_before front (out_changes job code made) refused (Ran job) rest (ap (λ (l : List Change). drop 1 l) e) in
+    let first : f ≡ Started job = cc in
+    (first, all_front (IsQuiet job m) front so.0 (subst (AllByRecursion (IsQuiet job m)) so.1 (quiet_outs job m code made)))
 
-pub front_passes : (job : Job) (code : ℤ) (made : Made) (h : History) (cs : List Change) (new : History) → cs ≡ run_changes job code made → IsFront cs h new → Passes (InRun job h.present) h new
-front_passes job code made h cs new e f =
-    let all = front_quiet job code made h cs new e f in
-    let along : Along (InRun job h.present) h.present (f.front ++ []) =
-    along_quiet job h.present h.present f.front [] all (quiet_still job h.present) (λ k q. quiet_in job h.present k q) in
-    subst (λ (k : History). Passes (InRun job h.present) h k) (ap (replay h) (append-nil f.front) ∙ sym f.made)
-    (passes_along (InRun job h.present) h (f.front ++ []) along)
+front_passes : (job : Job) (h : History) (front : List Change) → IsMadeFront job h.present front → Passes (InRun job h.present) h (replay h front)
+front_passes job h [] is = passes_none (InRun job h.present) h (run_still job h.present)
+front_passes job h (c ∷ front) is =
+    let m : Moment = h.present in
+    let along : Along (InRun job m) m (Started job ∷ (front ++ [])) =
+    (run_still job m, along_quiet job m (started job m) front [] is.1 (quiet_started job m) (λ k q. quiet_in job m k q)) in
+    subst (λ (d : Change). Passes (InRun job m) h (replay h (d ∷ front))) (sym is.0)
+    (subst (λ (l : List Change). Passes (InRun job m) h (replay h (Started job ∷ l))) (append-nil front) (passes_along (InRun job m) h (Started job ∷ (front ++ [])) along))
+
+front_stays : (job : Job) (h : History) (front : List Change) → IsMadeFront job h.present front → Stays itself h.present.aside (replay h front).present.aside
+front_stays job h [] is = stays_itself h.present.aside
+front_stays job h (c ∷ front) is =
+    let q = quiet_replay job h.present (grown (started job) h) front is.1 (quiet_started job h.present) in
+    subst (λ (d : Change). Stays itself h.present.aside (replay h (d ∷ front)).present.aside) (sym is.0) q.aside
 
 -- ---- the values at the outputs
 
@@ -250,13 +290,13 @@ values_left dir made (o ∷ outs) t e all =
 changed_effect : (c : Change) (m : Moment) → (changed c m).aside.fixed.effect ≡ m.aside.fixed.effect
 changed_effect (Edited at value) m = refl
 changed_effect (Cleared at) m = refl
-changed_effect (Loosened at) m = refl
+changed_effect (Started job) m = refl
 changed_effect (Left at value) m = refl
 changed_effect (Ran job) m = refl
 changed_effect (FolderMade at) m = refl
-changed_effect (Written at value) m = refl
-changed_effect (Settled at) m = refl
-changed_effect (Published origin at value) m = refl
+changed_effect (Written lane value) m = refl
+changed_effect (Settled lane) m = refl
+changed_effect (Published lane at value) m = refl
 
 replay_effect : (h : History) (cs : List Change) → (replay h cs).present.aside.fixed.effect ≡ h.present.aside.fixed.effect
 replay_effect h [] = refl
@@ -269,16 +309,8 @@ tree_after-append : (t : Tree) (cs ds : List Change) → tree_after t (cs ++ ds)
 tree_after-append t [] ds = refl
 tree_after-append t (c ∷ cs) ds = tree_after-append (tree_changed c t) cs ds
 
-loosened_tree : (t : Tree) (dir : Path) (outs : List (List ℕ)) → tree_after t (map (λ out. Loosened (path_from dir out)) outs) ≡ t
-loosened_tree t dir [] = refl
-loosened_tree t dir (o ∷ outs) = loosened_tree t dir outs
-
-run_tree : (job : Job) (code : ℤ) (made : Made) (t : Tree) → tree_after t (run_changes job code made) ≡ tree_after t (cond (int_eq code (pos 0)) (left_outs job made) [])
-run_tree job code made t =
-    let lefts : List Change = cond (int_eq code (pos 0)) (left_outs job made) [] in
-    tree_after-append t (out_changes job code made) (Ran job ∷ [])
-    ∙ tree_after-append t (loosened_outs job) lefts
-    ∙ ap (λ (k : Tree). tree_after k lefts) (loosened_tree t job.dir job.outs)
+run_tree : (job : Job) (code : ℤ) (made : Made) (t : Tree) → tree_after t (run_changes job code made) ≡ tree_after t (out_changes job code made)
+run_tree job code made t = tree_after-append t (out_changes job code made) (Ran job ∷ [])
 
 int_zero : (code : ℤ) → int_eq code (pos 0) ≡ false → code ≢ pos 0
 int_zero code e s = false≢true (sym e ∙ (signed_Decides code (pos 0)).1 s)
@@ -300,23 +332,62 @@ run_meets effect job code made t runs folders did =
     (ap (λ (k : Tree). map (value_at k) (out_paths job)) (sym (run_tree job code made t)))
     (subst (λ (step : Step). Meets (outcome_of job.outs step) code (values (int_eq code (pos 0)))) (sym did) so)
 
-run_ran : (job : Job) (code : ℤ) (made : Made) (h : History) → Stays (ran_too job) h.present.aside (replay h (run_changes job code made)).present.aside
-run_ran job code made h =
-    let q = quiet_replay job h.present h (out_changes job code made) (quiet_outs job h.present code made) (quiet_still job h.present) in
-    subst (λ (k : History). Stays (ran_too job) h.present.aside k.present.aside) (sym (replay-push h (out_changes job code made) (Ran job)))
-    (record { fixed = ap (ran_too job) q.aside.fixed; book = q.aside.book })
+abbrev HasRun : Job → Moment → Moment → Type 0
+HasRun job m n = Stays (ran_too job) m.aside n.aside × HasLooseOuts job n
 
-pub run_done : (effect : Given → Made → Step) (job : Job) (code : ℤ) (made : Made) (h : History) → is_runnable job ≡ true → HasFolders job h.present.tree → h.present.aside.fixed.effect ≡ Some (effect_of effect) → answered effect (plain_values (given_values h.present.tree job.dir job.deps)) job.outs job.commands (record { outs = unmade job.outs }) ≡ record { code = code; made = made } → IsRun job code h.present (replay h (run_changes job code made)).present
+run_ran : (job : Job) (code : ℤ) (made : Made) (h : History) → HasRun job h.present (replay h (run_changes job code made)).present
+run_ran job code made h =
+    let begun : History = grown (started job) h in
+    let q = quiet_replay job h.present begun (out_changes job code made) (quiet_outs job h.present code made) (quiet_started job h.present) in
+    subst (λ (k : History). HasRun job h.present k.present) (sym (replay-push begun (out_changes job code made) (Ran job)))
+    (record { fixed = ap (ran_too job) q.aside.fixed; book = q.aside.book }, q.outs)
+
+run_done : (effect : Given → Made → Step) (job : Job) (code : ℤ) (made : Made) (h : History) → is_runnable job ≡ true → HasFolders job h.present.tree → h.present.aside.fixed.effect ≡ Some (effect_of effect) → Answers effect job h code made → IsRun job code h.present (replay h (run_changes job code made)).present
 run_done effect job code made h runs folders told_effect did = record {
-  ran = run_ran job code made h;
+  ran = (run_ran job code made h).0;
+  loose = (run_ran job code made h).1;
   outcome =
       subst (λ (o : Option Effect). IfSome o (λ e. Meets (e (invocation_of job h.present.tree)) code (map (value_at (replay h (run_changes job code made)).present.tree) (out_paths job)))) (sym told_effect)
       (subst (λ (k : Tree). Meets (effect_of effect (invocation_of job h.present.tree)) code (map (value_at k) (out_paths job))) (sym (replay_tree h (run_changes job code made)))
       (run_meets effect job code made h.present.tree runs folders did));
 }
 
--- what the code answered is what is told
-pub answered_so : (effect : Given → Made → Step) (job : Job) (t k : Tree) (deps : List PathValue) (outs commands : List (List ℕ)) (made0 : Made) (step : Step) → answered effect deps outs commands made0 ≡ step → deps ≡ plain_values (given_values k job.dir job.deps) → k ≡ t → outs ≡ job.outs → commands ≡ job.commands → made0.outs ≡ unmade job.outs → answered effect (plain_values (given_values t job.dir job.deps)) job.outs job.commands (record { outs = unmade job.outs }) ≡ step
-answered_so effect job t k deps outs commands made0 step did d e o cs m =
-    let deps_are : deps ≡ plain_values (given_values t job.dir job.deps) = d ∙ ap (λ (x : Tree). plain_values (given_values x job.dir job.deps)) e in
-    sym (λ j. answered effect (deps_are j) (o j) (cs j) (record { outs = m j })) ∙ did
+-- ---- what a run makes, as the trait says it
+
+pub runs_ran : {E : Type 0} (effect : Given → Made → Step) (job : Job) (r : Result Exit E) (h h' : History) → is_runnable job ≡ true → HasFolders job h.present.tree → h.present.aside.fixed.effect ≡ Some (effect_of effect) → RunsBy effect job r h h' → IfOk r (λ exit. IsRun job exit.code h.present h'.present)
+runs_ran effect job (Ok exit) h h' runs folders known made =
+    subst (λ (k : History). IsRun job exit.code h.present k.present) (sym made.2) (run_done effect job exit.code made.0 h runs folders known made.1)
+runs_ran effect job (Err why) h h' runs folders known made = tt
+
+pub runs_passes : {E : Type 0} (effect : Given → Made → Step) (job : Job) (r : Result Exit E) (h h' : History) → RunsBy effect job r h h' → Passes (InRun job h.present) h h'
+runs_passes effect job (Ok exit) h h' made =
+    subst (λ (k : History). Passes (InRun job h.present) h k) (sym made.2) (run_passes job exit.code made.0 h)
+runs_passes effect job (Err why) h h' (inl same) = passes_same (InRun job h.present) h h' same (run_still job h.present)
+runs_passes effect job (Err why) h h' (inr part) =
+    let f = part.3 in
+    subst (λ (k : History). Passes (InRun job h.present) h k) (sym f.made) (front_passes job h f.front (made_front job part.0 part.1 h.present f.front f.refused f.rest f.parts))
+
+pub runs_not : {E : Type 0} (effect : Given → Made → Step) (job : Job) (r : Result Exit E) (h h' : History) → RunsBy effect job r h h' → OnErr r (Stays itself h.present.aside h'.present.aside)
+runs_not effect job (Ok exit) h h' made = tt
+runs_not effect job (Err why) h h' (inl same) = subst (λ (k : History). Stays itself h.present.aside k.present.aside) (sym same) (stays_itself h.present.aside)
+runs_not effect job (Err why) h h' (inr part) =
+    let f = part.3 in
+    subst (λ (k : History). Stays itself h.present.aside k.present.aside) (sym f.made) (front_stays job h f.front (made_front job part.0 part.1 h.present f.front f.refused f.rest f.parts))
+
+pub runs_none : {E : Type 0} (effect : Given → Made → Step) (job : Job) (r : Result Exit E) (old new : History) → IsErr r → new ≡ old → RunsBy effect job r old new
+runs_none effect job (Ok exit) old new e same = absurd (false≢true e)
+runs_none effect job (Err why) old new e same = inl same
+
+pub runs_front : {E : Type 0} (effect : Given → Made → Step) (job : Job) (r : Result Exit E) (old new : History) (code : ℤ) (made : Made) → IsErr r → Answers effect job old code made → IsFront (run_changes job code made) old new → RunsBy effect job r old new
+runs_front effect job (Ok exit) old new code made e answers front = absurd (false≢true e)
+runs_front effect job (Err why) old new code made e answers front = inr (code, made, answers, front)
+
+pub runs_counted : {E F : Type 0} (effect : Given → Made → Step) (job : Job) (r : Result Exit E) (q : Result Exit F) (old new : History) → MatchResult r (λ value. q ≡ Ok value) (λ _. IsErr q) → RunsBy effect job r old new → RunsBy effect job q old new
+runs_counted effect job (Ok x) q old new same made = subst (λ a. RunsBy effect job a old new) (sym same) made
+runs_counted effect job (Err e) (Ok x) old new same made = absurd (false≢true same)
+runs_counted effect job (Err e) (Err f) old new same made = made
+
+-- what the code answered, where nothing was made before, is what is told
+pub answered_so : (effect : Given → Made → Step) (job : Job) (t k : Tree) (made0 : Made) (step : Step) → answered effect (plain_values (given_values k job.dir job.deps)) job.outs job.commands made0 ≡ step → k ≡ t → made0.outs ≡ unmade job.outs → answered effect (plain_values (given_values t job.dir job.deps)) job.outs job.commands (record { outs = unmade job.outs }) ≡ step
+answered_so effect job t k made0 step did e m =
+    sym (λ j. answered effect (plain_values (given_values (e j) job.dir job.deps)) job.outs job.commands (record { outs = m j })) ∙ did

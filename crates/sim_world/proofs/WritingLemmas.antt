@@ -1,5 +1,5 @@
 -- The writing calls in memory: what each leaves, and what it passes on the way.
-use Rattle.std.proofs.Common.{◌≡◌, ◌≢◌, ℕ, Bool, false, cond, not, ◌&&◌, ◌||◌, List, [], ◌∷◌, ◌++◌, refl, sym, ap, subst, ◌∙◌, inl, inr, Option, Some, None, Result, Ok, Err, OnOk, OnErr}
+use Rattle.std.proofs.Common.{◌≡◌, ◌≢◌, ℕ, Bool, false, cond, not, ◌&&◌, ◌||◌, List, [], ◌++◌, refl, sym, ap, subst, ◌∙◌, inl, inr, Option, Some, None, Result, Ok, Err, OnOk}
 use Rattle.std.specs.Prelude.{is_some, codes}
 use Rattle.std.specs.FinMap.{insert}
 use Rattle.std.specs.Fmt.{decimal}
@@ -9,11 +9,13 @@ use Rattle.dvc_base.proofs.PathLemmas.{under-refl}
 use Rattle.world_api.specs.Tree.{Tree, Item, folder, file, item_at, IsTree}
 use Rattle.world_api.specs.History.{Moment, History, Passes, Keeps}
 use Rattle.world_api.specs.Calls.{IsFileAt, parent}
-use Rattle.world_api.specs.Writes.{dvc_path, tmp_path, lane_path, is_at, IsSameAt, IsNewFolder, IsRemade, IsNoFileAt, HasRoom, in_begin, InBegin, IsBegun, InAppend, IsAppended, InSettle, IsSettled, IsMoved, in_publish, InPublish, IsPublished}
+use Rattle.world_api.specs.Layout.{dvc_path, tmp_path, lane_path}
+use Rattle.world_api.specs.Writes.{is_at, IsSameAt, IsNewFolder, IsRemade, IsNoFileAt, HasRoom, in_begin, InBegin, IsBegun, InAppend, IsAppended, InSettle, IsSettled, IsMoved, in_publish, InPublish, IsPublished}
 use Rattle.world_api.proofs.HistoryLemmas.{keeps_then, keeps_in, stays_itself, passes_none, passes_then}
 use Rattle.world_api.proofs.TreeLemmas.{item_kept, item_gone, item_put_same, item_put_other}
 use Rattle.world_api.proofs.LaneLemmas.{at_itself, not_at, dvc_not_root, tmp_not_root, lane_not_root, dvc-parent, tmp-parent, lane-parent, dvc_above_lane, dvc_above_tmp, tmp_above_lane}
 use Rattle.world_api.proofs.WriteLemmas.{same_at, made_then_same, begin_itself, append_itself, settle_itself, publish_itself}
+use Rattle.sim_world.specs.Call.{Makes, IsSame}
 use Rattle.sim_world.specs.Change.{grown, made, written, made_firm, published}
 use Rattle.sim_world.specs.Edits.{without, is_folder, has_place, place, left_tree, made_tree, published_tree}
 use Rattle.sim_world.specs.Stands.{has_place-from, folder_is}
@@ -21,13 +23,10 @@ use Rattle.sim_world.specs.Writing.{held, lane_bytes, made_once, with_tmp, begun
 use Rattle.sim_world.specs.declared.value.Value.{Value}
 use Rattle.sim_world.specs.declared.value.Value.TheVariants.{File}
 use Rattle.sim_world.proofs.BookLemmas.{stays_met}
-use Rattle.sim_world.proofs.ChangeLemmas.{below_not_root}
+use Rattle.sim_world.proofs.ChangeLemmas.{below_not_root, passes_one, one_passes, one_left}
 use Rattle.sim_world.proofs.RunLemmas.{left_other}
 
 -- ---- one change
-
-passes_one : (P : Moment → Type 0) (h : History) (change : Moment → Moment) → P h.present → P (change h.present) → Passes P h (grown change h)
-passes_one P h change before after = record { since = h.present ∷ []; grown = refl; each = (before, tt); under = ([], refl); now = after }
 
 apart_from : (at p : Path) → is_at at p ≡ false → p ≢ at
 apart_from at p out s = false≢true (sym out ∙ ap (is_at at) s ∙ at_itself at)
@@ -52,10 +51,10 @@ made_new at m ne above = record {
   firm = ap (λ (b : Bool). not b && m.loose at) (at_itself at);
 }
 
-written_keeps : (at : Path) (value : Value) (m : Moment) → Keeps (under at) m (written at value m)
-written_keeps at value m = record {
+written_keeps : (lane : ℕ) (value : Value) (m : Moment) → Keeps (under (lane_path lane)) m (written lane value m)
+written_keeps lane value m = record {
   paths = record {
-    items = λ p out. left_other at value m.tree p out;
+    items = λ p out. left_other (lane_path lane) value m.tree p out;
     loose = λ p out. ap (λ (b : Bool). b || m.loose p) out;
   };
   aside = stays_itself m.aside;
@@ -113,10 +112,10 @@ same_remade m n k (inl a) b = inl (record { item = b.item ∙ a.item; loose = b.
 same_remade m n k (inr (was, inl none)) b = inr (was, inl (b.item ∙ none))
 same_remade m n k (inr (was, inr new)) b = inr (was, inr (record { stands = b.item ∙ new.stands; firm = b.loose ∙ new.firm }))
 
-begin_lane : (lane : ℕ) (m n : Moment) (value : Value) → InBegin lane m n → InBegin lane m (written (lane_path lane) value n)
+begin_lane : (lane : ℕ) (m n : Moment) (value : Value) → InBegin lane m n → InBegin lane m (written lane value n)
 begin_lane lane m n value x =
-    let k : Moment = written (lane_path lane) value n in
-    let keeps : Keeps (under (lane_path lane)) n k = written_keeps (lane_path lane) value n in
+    let k : Moment = written lane value n in
+    let keeps : Keeps (under (lane_path lane)) n k = written_keeps lane value n in
     record {
       dvc = made_then_same dvc_path m n k x.dvc (same_at dvc_path (under (lane_path lane)) n k keeps (dvc_above_lane lane));
       tmp = same_remade m n k x.tmp (same_at tmp_path (under (lane_path lane)) n k keeps (tmp_above_lane lane));
@@ -146,11 +145,12 @@ begun_passes : (lane : ℕ) (h : History) → IsNoFileAt h.present.tree dvc_path
 begun_passes lane h no_file =
     let so = (step_folders lane h no_file).0 in
     passes_then (InBegin lane h.present) h (with_tmp h) (begun lane h) so
-    (passes_one (InBegin lane h.present) (with_tmp h) (written (lane_path lane) (File [])) so.now (begin_lane lane h.present (with_tmp h).present (File []) so.now))
+    (passes_one (InBegin lane h.present) (with_tmp h) (written lane (File [])) so.now (begin_lane lane h.present (with_tmp h).present (File []) so.now))
 
 begun_empty : (lane : ℕ) (h : History) → IsNoFileAt h.present.tree dvc_path → IsBegun lane (begun lane h).present
 begun_empty lane h no_file = record {
   empty = left_here (lane_path lane) [] (with_tmp h).present.tree (lane_not_root lane) (ap (item_at (with_tmp h).present.tree) (lane-parent lane) ∙ (step_folders lane h no_file).1);
+  loose = λ p u. ap (λ (b : Bool). b || (with_tmp h).present.loose p) u;
 }
 
 beginning_passes : (lane : ℕ) (h new : History) → IsNoFileAt h.present.tree dvc_path → IsBeginning h new → Passes (InBegin lane h.present) h new
@@ -158,57 +158,56 @@ beginning_passes lane h new no_file (inl (inl e)) = subst (λ (k : History). Pas
 beginning_passes lane h new no_file (inl (inr e)) = subst (λ (k : History). Passes (InBegin lane h.present) h k) (sym e) (step_dvc lane h no_file).0
 beginning_passes lane h new no_file (inr e) = subst (λ (k : History). Passes (InBegin lane h.present) h k) (sym e) (step_folders lane h no_file).0
 
-pub begin_passes : {T E : Type 0} (r : Result T E) (lane : ℕ) (h h' : History) → IsNoFileAt h.present.tree dvc_path → OnOk r (h' ≡ begun lane h) → OnErr r (IsBeginning h h') → Passes (InBegin lane h.present) h h'
-begin_passes (Ok x) lane h h' no_file ok err = subst (λ (k : History). Passes (InBegin lane h.present) h k) (sym ok) (begun_passes lane h no_file)
-begin_passes (Err x) lane h h' no_file ok err = beginning_passes lane h h' no_file err
+pub begin_passes : {T E : Type 0} (r : Result T E) (lane : ℕ) (h h' : History) → IsNoFileAt h.present.tree dvc_path → Makes r (begun lane) IsBeginning h h' → Passes (InBegin lane h.present) h h'
+begin_passes (Ok x) lane h h' no_file made = subst (λ (k : History). Passes (InBegin lane h.present) h k) (sym made) (begun_passes lane h no_file)
+begin_passes (Err x) lane h h' no_file made = beginning_passes lane h h' no_file made
 
-pub begin_begun : {T E : Type 0} (r : Result T E) (lane : ℕ) (h h' : History) → IsNoFileAt h.present.tree dvc_path → OnOk r (h' ≡ begun lane h) → OnOk r (IsBegun lane h'.present)
-begin_begun (Ok x) lane h h' no_file ok = subst (λ (k : History). IsBegun lane k.present) (sym ok) (begun_empty lane h no_file)
-begin_begun (Err x) lane h h' no_file ok = tt
-
--- ---- a call of one change
-
-one_passes : {T E : Type 0} (r : Result T E) (P : Moment → Type 0) (change : Moment → Moment) (h h' : History) → P h.present → P (change h.present) → OnOk r (h' ≡ grown change h) → OnErr r (h' ≡ h) → Passes P h h'
-one_passes (Ok x) P change h h' before after ok err = subst (λ (k : History). Passes P h k) (sym ok) (passes_one P h change before after)
-one_passes (Err x) P change h h' before after ok err = subst (λ (k : History). Passes P h k) (sym err) (passes_none P h before)
-
-one_left : {T E : Type 0} (r : Result T E) (P : Moment → Type 0) (change : Moment → Moment) (h h' : History) → P (change h.present) → OnOk r (h' ≡ grown change h) → OnOk r (P h'.present)
-one_left (Ok x) P change h h' after ok = subst (λ (k : History). P k.present) (sym ok) after
-one_left (Err x) P change h h' after ok = tt
+pub begin_begun : {T E : Type 0} (r : Result T E) (lane : ℕ) (h h' : History) → IsNoFileAt h.present.tree dvc_path → Makes r (begun lane) IsBeginning h h' → OnOk r (IsBegun lane h'.present)
+begin_begun (Ok x) lane h h' no_file made = subst (λ (k : History). IsBegun lane k.present) (sym made) (begun_empty lane h no_file)
+begin_begun (Err x) lane h h' no_file made = tt
 
 -- ---- `append`
 
-append_done : (lane : ℕ) (bytes : List ℕ) (m : Moment) → IsTree m.tree → IsFileAt m.tree (lane_path lane) → IsAppended lane bytes m (written (lane_path lane) (File (lane_bytes lane m.tree ++ bytes)) m)
+append_done : (lane : ℕ) (bytes : List ℕ) (m : Moment) → IsTree m.tree → IsFileAt m.tree (lane_path lane) → IsAppended lane bytes m (written lane (File (lane_bytes lane m.tree ++ bytes)) m)
 append_done lane bytes m is stands = record {
   grown = λ old e.
       left_here (lane_path lane) (lane_bytes lane m.tree ++ bytes) m.tree (lane_not_root lane) (lane_above lane m.tree is stands)
       ∙ ap (λ (o : Option Item). Some (file (held o ++ bytes))) e;
+  loose = λ p u. ap (λ (b : Bool). b || m.loose p) u;
 }
 
-pub append_passes : {T E : Type 0} (r : Result T E) (lane : ℕ) (bytes : List ℕ) (h h' : History) → OnOk r (h' ≡ appended lane bytes h) → OnErr r (h' ≡ h) → Passes (InAppend lane h.present) h h'
-append_passes r lane bytes h h' ok err =
-    let value : Value = File (lane_bytes lane h.present.tree ++ bytes) in
-    one_passes r (InAppend lane h.present) (written (lane_path lane) value) h h' (append_itself lane h.present) (record { others = written_keeps (lane_path lane) value h.present }) ok err
+appended_one : {T E : Type 0} (r : Result T E) (lane : ℕ) (bytes : List ℕ) (h h' : History) → Makes r (appended lane bytes) IsSame h h' → Makes r (grown (written lane (File (lane_bytes lane h.present.tree ++ bytes)))) IsSame h h'
+appended_one (Ok x) lane bytes h h' made = made
+appended_one (Err x) lane bytes h h' made = made
 
-pub append_appended : {T E : Type 0} (r : Result T E) (lane : ℕ) (bytes : List ℕ) (h h' : History) → IsTree h.present.tree → IsFileAt h.present.tree (lane_path lane) → OnOk r (h' ≡ appended lane bytes h) → OnOk r (IsAppended lane bytes h.present h'.present)
-append_appended r lane bytes h h' is stands ok =
-    one_left r (IsAppended lane bytes h.present) (written (lane_path lane) (File (lane_bytes lane h.present.tree ++ bytes))) h h' (append_done lane bytes h.present is stands) ok
+pub append_passes : {T E : Type 0} (r : Result T E) (lane : ℕ) (bytes : List ℕ) (h h' : History) → Makes r (appended lane bytes) IsSame h h' → Passes (InAppend lane h.present) h h'
+append_passes r lane bytes h h' made =
+    let value : Value = File (lane_bytes lane h.present.tree ++ bytes) in
+    one_passes r (InAppend lane h.present) (written lane value) h h' (append_itself lane h.present) (record { others = written_keeps lane value h.present }) (appended_one r lane bytes h h' made)
+
+pub append_appended : {T E : Type 0} (r : Result T E) (lane : ℕ) (bytes : List ℕ) (h h' : History) → IsTree h.present.tree → IsFileAt h.present.tree (lane_path lane) → Makes r (appended lane bytes) IsSame h h' → OnOk r (IsAppended lane bytes h.present h'.present)
+append_appended r lane bytes h h' is stands made =
+    one_left r (IsAppended lane bytes h.present) (written lane (File (lane_bytes lane h.present.tree ++ bytes))) h h' (append_done lane bytes h.present is stands) (appended_one r lane bytes h h' made)
 
 -- ---- `settle`
 
-firm_keeps : (at : Path) (m : Moment) → Keeps (under at) m (made_firm at m)
-firm_keeps at m = record {
+firm_keeps : (lane : ℕ) (m : Moment) → Keeps (under (lane_path lane)) m (made_firm lane m)
+firm_keeps lane m = record {
   paths = record { items = λ p out. refl; loose = λ p out. ap (λ (b : Bool). not b && m.loose p) out };
   aside = stays_itself m.aside;
 }
 
-pub settle_passes : {T E : Type 0} (r : Result T E) (lane : ℕ) (h h' : History) → OnOk r (h' ≡ firm lane h) → OnErr r (h' ≡ h) → Passes (InSettle lane h.present) h h'
-settle_passes r lane h h' ok err =
-    one_passes r (InSettle lane h.present) (made_firm (lane_path lane)) h h' (settle_itself lane h.present) (record { others = firm_keeps (lane_path lane) h.present }) ok err
+firm_one : {T E : Type 0} (r : Result T E) (lane : ℕ) (h h' : History) → Makes r (firm lane) IsSame h h' → Makes r (grown (made_firm lane)) IsSame h h'
+firm_one (Ok x) lane h h' made = made
+firm_one (Err x) lane h h' made = made
 
-pub settle_settled : {T E : Type 0} (r : Result T E) (lane : ℕ) (h h' : History) → OnOk r (h' ≡ firm lane h) → OnOk r (IsSettled lane h.present h'.present)
-settle_settled r lane h h' ok =
-    one_left r (IsSettled lane h.present) (made_firm (lane_path lane)) h h' (record { same = refl; firm = λ p u. ap (λ (b : Bool). not b && h.present.loose p) u }) ok
+pub settle_passes : {T E : Type 0} (r : Result T E) (lane : ℕ) (h h' : History) → Makes r (firm lane) IsSame h h' → Passes (InSettle lane h.present) h h'
+settle_passes r lane h h' made =
+    one_passes r (InSettle lane h.present) (made_firm lane) h h' (settle_itself lane h.present) (record { others = firm_keeps lane h.present }) (firm_one r lane h h' made)
+
+pub settle_settled : {T E : Type 0} (r : Result T E) (lane : ℕ) (h h' : History) → Makes r (firm lane) IsSame h h' → OnOk r (IsSettled lane h.present h'.present)
+settle_settled r lane h h' made =
+    one_left r (IsSettled lane h.present) (made_firm lane) h h' (record { same = refl; firm = λ p u. ap (λ (b : Bool). not b && h.present.loose p) u }) (firm_one r lane h h' made)
 
 -- ---- `publish`
 
@@ -218,13 +217,13 @@ publish_here lane at bytes m apart room =
     item_kept (left_tree at (File bytes) m.tree) (λ q. not (under (lane_path lane) q)) at (not_from_false (under (lane_path lane) at) apart)
     ∙ left_here at bytes m.tree (λ e. room.no_folder (ap (item_at m.tree) e)) room.above
 
-publish_new : (lane : ℕ) (at : Path) (m : Moment) → under (lane_path lane) at ≡ false → HasRoom at m.tree → IsMoved lane at m (published (lane_path lane) at (File (lane_bytes lane m.tree)) m)
+publish_new : (lane : ℕ) (at : Path) (m : Moment) → under (lane_path lane) at ≡ false → HasRoom at m.tree → IsMoved lane at m (published lane at (File (lane_bytes lane m.tree)) m)
 publish_new lane at m apart room bytes e = record {
   stands = publish_here lane at (lane_bytes lane m.tree) m apart room ∙ ap (λ (o : Option Item). Some (file (held o))) e;
   firm = λ p u. ap (λ (b : Bool). not b && m.loose p) u;
 }
 
-publish_keeps : (lane : ℕ) (at : Path) (value : Value) (m : Moment) → Keeps (in_publish lane at) m (published (lane_path lane) at value m)
+publish_keeps : (lane : ℕ) (at : Path) (value : Value) (m : Moment) → Keeps (in_publish lane at) m (published lane at value m)
 publish_keeps lane at value m = record {
   paths = record {
     items =
@@ -234,16 +233,20 @@ publish_keeps lane at value m = record {
   aside = stays_met value m.aside;
 }
 
-pub publish_passes : {T E : Type 0} (r : Result T E) (lane : ℕ) (at : Path) (h h' : History) → under (lane_path lane) at ≡ false → HasRoom at h.present.tree → OnOk r (h' ≡ moved lane at h) → OnErr r (h' ≡ h) → Passes (InPublish lane at h.present) h h'
-publish_passes r lane at h h' apart room ok err =
-    let value : Value = File (lane_bytes lane h.present.tree) in
-    one_passes r (InPublish lane at h.present) (published (lane_path lane) at value) h h' (publish_itself lane at h.present) (record { path = inr (publish_new lane at h.present apart room); others = publish_keeps lane at value h.present }) ok err
+moved_one : {T E : Type 0} (r : Result T E) (lane : ℕ) (at : Path) (h h' : History) → Makes r (moved lane at) IsSame h h' → Makes r (grown (published lane at (File (lane_bytes lane h.present.tree)))) IsSame h h'
+moved_one (Ok x) lane at h h' made = made
+moved_one (Err x) lane at h h' made = made
 
-pub publish_published : {T E : Type 0} (r : Result T E) (lane : ℕ) (at : Path) (h h' : History) → under (lane_path lane) at ≡ false → HasRoom at h.present.tree → OnOk r (h' ≡ moved lane at h) → OnOk r (IsPublished lane at h.present h'.present)
-publish_published r lane at h h' apart room ok =
+pub publish_passes : {T E : Type 0} (r : Result T E) (lane : ℕ) (at : Path) (h h' : History) → under (lane_path lane) at ≡ false → HasRoom at h.present.tree → Makes r (moved lane at) IsSame h h' → Passes (InPublish lane at h.present) h h'
+publish_passes r lane at h h' apart room made =
     let value : Value = File (lane_bytes lane h.present.tree) in
-    one_left r (IsPublished lane at h.present) (published (lane_path lane) at value) h h'
+    one_passes r (InPublish lane at h.present) (published lane at value) h h' (publish_itself lane at h.present) (record { path = inr (publish_new lane at h.present apart room); others = publish_keeps lane at value h.present }) (moved_one r lane at h h' made)
+
+pub publish_published : {T E : Type 0} (r : Result T E) (lane : ℕ) (at : Path) (h h' : History) → under (lane_path lane) at ≡ false → HasRoom at h.present.tree → Makes r (moved lane at) IsSame h h' → OnOk r (IsPublished lane at h.present h'.present)
+publish_published r lane at h h' apart room made =
+    let value : Value = File (lane_bytes lane h.present.tree) in
+    one_left r (IsPublished lane at h.present) (published lane at value) h h'
     (record {
       moved = publish_new lane at h.present apart room;
       gone = λ p u. item_gone (left_tree at value h.present.tree) (λ q. not (under (lane_path lane) q)) p (below_not_root (lane_path lane) p (lane_not_root lane) u) (not_from_true (under (lane_path lane) p) u);
-    }) ok
+    }) (moved_one r lane at h h' made)

@@ -1,67 +1,79 @@
 -- The changes of a world in memory, and the history that they make.
---     edited at v m      the moment after an edit
 --     changed c m        the moment after a change
 --     replay h cs        the history after changes, each of which is one moment
-use Rattle.std.specs.Prelude.{◌≡◌, ◌++◌, Bool, false, not, ◌&&◌, ◌||◌, List, [], ◌∷◌, Some}
+use Rattle.std.specs.Prelude.{◌≡◌, ℕ, ◌++◌, Bool, false, not, ◌&&◌, ◌||◌, List, [], ◌∷◌, Some}
 use Rattle.dvc_base.specs.Path.{Path, under}
 use Rattle.world_api.specs.Tree.{Tree}
-use Rattle.world_api.specs.Effect.{Effect}
+use Rattle.world_api.specs.Effect.{Effect, out_paths, is_in_any}
 use Rattle.world_api.specs.History.{Moment, History, ran_too}
+use Rattle.world_api.specs.Layout.{lane_path}
 use Rattle.world_api.specs.Writes.{is_at}
 use Rattle.world_api.specs.declared.job.Job.{Job}
 use Rattle.sim_world.specs.Book.{book_of, with_met}
-use Rattle.sim_world.specs.Edits.{without, edited_tree, left_tree, made_tree, published_tree}
+use Rattle.sim_world.specs.Edits.{without, edited_tree, is_edited, left_tree, made_tree, published_tree}
 use Rattle.sim_world.specs.declared.value.Value.{Value}
 use Rattle.sim_world.specs.declared.change.Change.{Change}
-use Rattle.sim_world.specs.declared.change.Change.TheVariants.{Edited, Cleared, Loosened, Left, Ran, FolderMade, Written, Settled, Published}
+use Rattle.sim_world.specs.declared.change.Change.TheVariants.{Edited, Cleared, Started, Left, Ran, FolderMade, Written, Settled, Published}
 
--- loose as before, but for a path and what lies below it
-abbrev pub settled : Path → (Path → Bool) → Path → Bool
-settled at loose p = not (under at p) && loose p
+-- loose as before, but for an area
+abbrev pub settled : (Path → Bool) → (Path → Bool) → Path → Bool
+settled area loose p = not (area p) && loose p
 
-abbrev pub loosened : Path → (Path → Bool) → Path → Bool
-loosened at loose p = under at p || loose p
-
-abbrev pub settled_at : Path → (Path → Bool) → Path → Bool
-settled_at at loose p = not (is_at at p) && loose p
+abbrev pub loosened : (Path → Bool) → (Path → Bool) → Path → Bool
+loosened area loose p = area p || loose p
 
 abbrev pub edited : Path → Value → Moment → Moment
-edited at value m = record m { tree = edited_tree at value m.tree; loose = settled at m.loose; aside = with_met value m.aside }
+edited at value m = record m {
+  tree = edited_tree at value m.tree;
+  loose = settled (is_edited at value m.tree) m.loose;
+  aside = with_met value m.aside;
+}
 
 abbrev pub cleared : Path → Moment → Moment
-cleared at m = record m { tree = without at m.tree; loose = settled at m.loose }
+cleared at m = record m { tree = without at m.tree; loose = settled (under at) m.loose }
 
-abbrev pub made_loose : Path → Moment → Moment
-made_loose at m = record m { loose = loosened at m.loose }
+abbrev pub started : Job → Moment → Moment
+started job m = record m { loose = loosened (is_in_any (out_paths job)) m.loose }
 
 abbrev pub left : Path → Value → Moment → Moment
-left at value m = record m { tree = left_tree at value m.tree; loose = loosened at m.loose; aside = with_met value m.aside }
-
-abbrev pub made : Path → Moment → Moment
-made at m = record m { tree = made_tree at m.tree; loose = settled_at at m.loose }
-
-abbrev pub written : Path → Value → Moment → Moment
-written at value m = record m { tree = left_tree at value m.tree; loose = loosened at m.loose }
-
-abbrev pub made_firm : Path → Moment → Moment
-made_firm at m = record m { loose = settled at m.loose }
-
-abbrev pub published : Path → Path → Value → Moment → Moment
-published origin at value m = record m { tree = published_tree origin at value m.tree; loose = settled at m.loose; aside = with_met value m.aside }
+left at value m = record m {
+  tree = left_tree at value m.tree;
+  loose = loosened (under at) m.loose;
+  aside = with_met value m.aside;
+}
 
 abbrev pub with_job : Job → Moment → Moment
 with_job job m = record m { aside = record m.aside { fixed = ran_too job m.aside.fixed } }
 
+abbrev pub made : Path → Moment → Moment
+made at m = record m { tree = made_tree at m.tree; loose = settled (is_at at) m.loose }
+
+abbrev pub written : ℕ → Value → Moment → Moment
+written lane value m = record m {
+  tree = left_tree (lane_path lane) value m.tree;
+  loose = loosened (under (lane_path lane)) m.loose;
+}
+
+abbrev pub made_firm : ℕ → Moment → Moment
+made_firm lane m = record m { loose = settled (under (lane_path lane)) m.loose }
+
+abbrev pub published : ℕ → Path → Value → Moment → Moment
+published lane at value m = record m {
+  tree = published_tree (lane_path lane) at value m.tree;
+  loose = settled (under at) m.loose;
+  aside = with_met value m.aside;
+}
+
 abbrev pub changed : Change → Moment → Moment
 changed (Edited at value) m = edited at value m
 changed (Cleared at) m = cleared at m
-changed (Loosened at) m = made_loose at m
+changed (Started job) m = started job m
 changed (Left at value) m = left at value m
 changed (Ran job) m = with_job job m
 changed (FolderMade at) m = made at m
-changed (Written at value) m = written at value m
-changed (Settled at) m = made_firm at m
-changed (Published origin at value) m = published origin at value m
+changed (Written lane value) m = written lane value m
+changed (Settled lane) m = made_firm lane m
+changed (Published lane at value) m = published lane at value m
 
 -- one moment more
 abbrev pub grown : (Moment → Moment) → History → History

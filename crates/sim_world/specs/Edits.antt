@@ -1,9 +1,10 @@
 -- What an edit and a run make of a tree.
 --     edited_tree at v t     the value stands at the path, in place of what stood there, and folders above it
+--     is_edited at v t p     whether the edit writes at p: at or below its path, or a folder above that didn't stand
 --     left_tree at v t       the same, where the folder above stands; else nothing changes
 --     made_tree at t         a folder in place of a file or of nothing, where the folder above stands
 --     published_tree o at v t     the value moved from the path o
-use Rattle.std.specs.Prelude.{ℕ, zero, suc, Bool, true, false, not, [], ◌∷◌, length, Option, Some, if◌then◌else◌}
+use Rattle.std.specs.Prelude.{ℕ, zero, suc, Bool, true, false, not, ◌&&◌, ◌||◌, [], ◌∷◌, length, Option, Some, if◌then◌else◌}
 use Rattle.std.specs.FinMap.{insert, retain_keys}
 use Rattle.dvc_base.specs.Path.{Path, under}
 use Rattle.world_api.specs.Tree.{Tree, Item, folder, file, item_at}
@@ -31,13 +32,20 @@ abbrev pub put_value : Path → Value → Tree → Tree
 put_value at Nothing t = t
 put_value at (File bytes) t = insert (folders_above at t) at (file bytes)
 
--- the root can't be edited
-abbrev pub edited_tree : Path → Value → Tree → Tree
-edited_tree at value t = if is_root at then t else put_value at value (without at t)
-
 abbrev pub is_folder : Option Item → Bool
 is_folder (Some folder) = true
 is_folder _ = false
+
+abbrev pub is_new_above : Path → Value → Tree → Path → Bool
+is_new_above at Nothing t p = false
+is_new_above at (File bytes) t p = under p at && not (is_folder (item_at t p))
+
+abbrev pub is_edited : Path → Value → Tree → Path → Bool
+is_edited at value t p = under at p || is_new_above at value t p
+
+-- the root can't be edited
+abbrev pub edited_tree : Path → Value → Tree → Tree
+edited_tree at value t = if is_root at then t else put_value at value (without at t)
 
 -- whether a path isn't the root, and the folder above it stands
 abbrev pub has_place : Tree → Path → Bool

@@ -1,14 +1,17 @@
 pub mod Answer
 pub mod Applied
 pub mod Book
+pub mod Call
 pub mod Change
 pub mod Edits
 pub mod Entries
 pub mod Found
+pub mod Met
 pub mod Pipe
 pub mod Run
 pub mod Stands
 pub mod Step
 pub mod Sunk
 pub mod TreeCode
+pub mod World
 pub mod Writing

@@ -1,7 +1,6 @@
 -- Each moment of a world in memory has a tree: an edit leaves one, and so does what a run leaves.
 use Rattle.std.specs.Prelude.{◌≡◌, ◌≢◌, ℕ, zero, suc, true, false, cond, not, List, [], ◌∷◌, ◌++◌, length, Option, Some, None, IsSome, is_some, refl}
 use Rattle.std.proofs.Common.{sym, ap, ◌∙◌}
-use Rattle.std.specs.List.{AllByRecursion}
 use Rattle.std.specs.FinMap.{get, insert}
 use Rattle.std.proofs.lemmas.Bool.{false≢true, false_from_ne_true, not_from_false, not_from_true}
 use Rattle.dvc_base.specs.Path.{Path, under}
@@ -9,12 +8,14 @@ use Rattle.dvc_base.proofs.PathLemmas.{under-refl, under-trans, under-append}
 use Rattle.world_api.specs.Tree.{Tree, Item, folder, file, item_at, IsTree}
 use Rattle.world_api.specs.Effect.{Effect}
 use Rattle.world_api.specs.History.{Moment, History}
+use Rattle.world_api.specs.Outside.{HasTrees}
+use Rattle.world_api.specs.Layout.{lane_path}
 use Rattle.world_api.specs.Calls.{parent}
 use Rattle.world_api.proofs.TreeLemmas.{tree-put, tree-without, get_put_other, item_put_same, get_gone, item_kept, under_parent, parent_apart, cons_not_root, long_not_root, parent-length, child_apart, none_long}
 use Rattle.sim_world.specs.Edits.{is_root, without, with_folders, folders_above, put_value, edited_tree, is_folder, has_place, place, left_tree, made_tree}
 use Rattle.sim_world.specs.Change.{changed, grown, replay, history_of, opened}
 use Rattle.sim_world.specs.declared.change.Change.{Change}
-use Rattle.sim_world.specs.declared.change.Change.TheVariants.{Edited, Cleared, Loosened, Left, Ran, FolderMade, Written, Settled, Published}
+use Rattle.sim_world.specs.declared.change.Change.TheVariants.{Edited, Cleared, Started, Left, Ran, FolderMade, Written, Settled, Published}
 use Rattle.sim_world.specs.declared.value.Value.{Value}
 use Rattle.sim_world.specs.declared.value.Value.TheVariants.{Nothing, File}
 
@@ -106,17 +107,17 @@ HasTree m = IsTree m.tree
 moment-changed : (c : Change) (m : Moment) → HasTree m → HasTree (changed c m)
 moment-changed (Edited at value) m is = tree-edited at value m.tree is
 moment-changed (Cleared at) m is = tree-without m.tree at is
-moment-changed (Loosened at) m is = is
+moment-changed (Started job) m is = is
 moment-changed (Left at value) m is = tree-left at value m.tree is
 moment-changed (Ran job) m is = is
 moment-changed (FolderMade at) m is = tree-made at m.tree is
-moment-changed (Written at value) m is = tree-left at value m.tree is
-moment-changed (Settled at) m is = is
-moment-changed (Published origin at value) m is = tree-without (left_tree at value m.tree) origin (tree-left at value m.tree is)
+moment-changed (Written lane value) m is = tree-left (lane_path lane) value m.tree is
+moment-changed (Settled lane) m is = is
+moment-changed (Published lane at value) m is = tree-without (left_tree at value m.tree) (lane_path lane) (tree-left at value m.tree is)
 
-replay-stands : (h : History) (cs : List Change) → IsTree h.present.tree → AllByRecursion (λ (m : Moment). IsTree m.tree) h.past → IsTree (replay h cs).present.tree × AllByRecursion (λ (m : Moment). IsTree m.tree) (replay h cs).past
-replay-stands h [] is all = (is, all)
-replay-stands h (c ∷ cs) is all = replay-stands (grown (changed c) h) cs (moment-changed c h.present is) (is, all)
+replay-stands : (h : History) (cs : List Change) → HasTrees h → HasTrees (replay h cs)
+replay-stands h [] is = is
+replay-stands h (c ∷ cs) is = replay-stands (grown (changed c) h) cs (moment-changed c h.present is.0, is)
 
-pub stands : (effect : Effect) (t : Tree) (cs : List Change) → IsTree t → IsTree (history_of effect t cs).present.tree × AllByRecursion (λ (m : Moment). IsTree m.tree) (history_of effect t cs).past
-stands effect t cs is = replay-stands (record { present = opened effect t; past = []; under = [] }) cs is tt
+pub stands : (effect : Effect) (t : Tree) (cs : List Change) → IsTree t → HasTrees (history_of effect t cs)
+stands effect t cs is = replay-stands (record { present = opened effect t; past = []; under = [] }) cs (is, tt)

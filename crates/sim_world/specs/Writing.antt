@@ -4,7 +4,7 @@ use Rattle.std.specs.Prelude.{◌≡◌, ◌⊎◌, ℕ, List, [], ◌++◌, Opt
 use Rattle.dvc_base.specs.Path.{Path}
 use Rattle.world_api.specs.Tree.{Tree, Item, folder, file, item_at}
 use Rattle.world_api.specs.History.{History}
-use Rattle.world_api.specs.Writes.{dvc_path, tmp_path, lane_path}
+use Rattle.world_api.specs.Layout.{dvc_path, tmp_path, lane_path}
 use Rattle.sim_world.specs.Change.{grown, made, written, made_firm, published}
 use Rattle.sim_world.specs.Edits.{is_folder}
 use Rattle.sim_world.specs.declared.value.Value.TheVariants.{File}
@@ -26,7 +26,7 @@ abbrev pub with_tmp : History → History
 with_tmp h = made_once tmp_path (made_once dvc_path h)
 
 abbrev pub begun : ℕ → History → History
-begun lane h = grown (written (lane_path lane) (File [])) (with_tmp h)
+begun lane h = grown (written lane (File [])) (with_tmp h)
 
 -- some of the changes of a begin
 abbrev pub IsMakingTmp : History → History → Type 0
@@ -36,10 +36,10 @@ abbrev pub IsBeginning : History → History → Type 0
 IsBeginning h new = IsMakingTmp h new ⊎ (new ≡ with_tmp h)
 
 abbrev pub appended : ℕ → List ℕ → History → History
-appended lane bytes h = grown (written (lane_path lane) (File (lane_bytes lane h.present.tree ++ bytes))) h
+appended lane bytes h = grown (written lane (File (lane_bytes lane h.present.tree ++ bytes))) h
 
 abbrev pub firm : ℕ → History → History
-firm lane h = grown (made_firm (lane_path lane)) h
+firm lane h = grown (made_firm lane) h
 
 abbrev pub moved : ℕ → Path → History → History
-moved lane at h = grown (published (lane_path lane) at (File (lane_bytes lane h.present.tree))) h
+moved lane at h = grown (published lane at (File (lane_bytes lane h.present.tree))) h

@@ -1,41 +1,40 @@
 // The files of a world in memory.
-ghost use Rattle.std.specs.Prelude.{◌≡◌, ◌≢◌, ◌≤◌, false, [], length, IfOk, OnOk, OnErr, IsOk};
-ghost use Rattle.world_api.specs.Tree.{item_at};
-ghost use Rattle.world_api.specs.History.{Passes, HasCause};
-ghost use Rattle.world_api.specs.Calls.{kind_of, IsFileAt, ReadsFrom, IsRead, IsCleared, InClear};
+ghost use Rattle.std.specs.Prelude.{◌≡◌, ◌≢◌, ◌≤◌, false, [], length, IfOk};
 ghost use Rattle.dvc_base.specs.Path.{under};
-ghost use Rattle.world_api.specs.Writes.{dvc_path, lane_path, IsNoFileAt, HasRoom, IsFirmLane, InBegin, IsBegun, InAppend, IsAppended, InSettle, IsSettled, InPublish, IsPublished};
+ghost use Rattle.world_api.specs.Tree.{item_at};
+ghost use Rattle.world_api.specs.Outside.{tree_of};
+ghost use Rattle.world_api.specs.Layout.{dvc_path, lane_path};
+ghost use Rattle.world_api.specs.Calls.{kind_of, IsFileAt, ReadsFrom, IsRead};
+ghost use Rattle.world_api.specs.Writes.{IsNoFileAt, HasRoom, IsFirmLane};
+ghost use Rattle.sim_world.specs.Call.{Makes, IsSame, Counted};
 ghost use Rattle.sim_world.specs.Change.{grown, cleared};
+ghost use Rattle.sim_world.specs.Writing.{begun, IsBeginning, appended, firm, moved};
 
 use crate::change::Change;
 use crate::{Rule, SimWorld};
 use dvc_base::{Failed, NoMemory, Plain, Rel};
-use world_api::{Files, Ground, Kind};
+use world_api::{Files, Kind, ReadFiles};
 
-impl<R: Rule> Files for SimWorld<R> {
+impl<R: Rule> ReadFiles for SimWorld<R> {
+    ghost use Rattle.sim_world.specs.World.{history_in, counts_in};
     ghost use Rattle.sim_world.specs.Answer.{effect_of};
     ghost use Rattle.sim_world.specs.Stands.{stands as each_stands};
 
     fn kind(&mut self, at: &Rel) -> Result<Kind, Failed>
-        ensures always { IsOk result }
-        ensures told { IfOk result (λ kind.
-            kind ≡ kind_of (item_at (⟦<SimWorld<R> as Ground>⟧.history self.old).present.tree at.now)) }
-        ensures unchanged { ⟦<SimWorld<R> as Ground>⟧.history self.new ≡ ⟦<SimWorld<R> as Ground>⟧.history self.old }
-        ensures cause { HasCause (⟦<SimWorld<R> as Ground>⟧.faults self.old) (⟦<SimWorld<R> as Ground>⟧.faults self.new) result }
-        ensures count { ⟦<SimWorld<R> as Ground>⟧.faults self.new ≡ ⟦<SimWorld<R> as Ground>⟧.faults self.old }
+        ensures told { IfOk result (λ kind. kind ≡ kind_of (item_at (tree_of (history_in self.old)) at.now)) }
+        ensures unchanged { history_in self.new ≡ history_in self.old }
+        ensures count { Counted result (counts_in self.old) (counts_in self.new) }
     {
         Ok(self.tree().kind(at))
     }
 
     fn read_at(&mut self, at: &Rel, from: u64, into: &mut [u8]) -> Result<usize, Failed>
-        requires { IsFileAt (⟦<SimWorld<R> as Ground>⟧.history self.old).present.tree at.now }
-        ensures always { IsOk result }
+        requires { IsFileAt (tree_of (history_in self.old)) at.now }
         ensures within { IfOk result (λ count. count ≤ length into.old) }
         ensures read { IfOk result (λ count.
-            ReadsFrom (item_at (⟦<SimWorld<R> as Ground>⟧.history self.old).present.tree at.now) from into.old into.new count) }
-        ensures unchanged { ⟦<SimWorld<R> as Ground>⟧.history self.new ≡ ⟦<SimWorld<R> as Ground>⟧.history self.old }
-        ensures cause { HasCause (⟦<SimWorld<R> as Ground>⟧.faults self.old) (⟦<SimWorld<R> as Ground>⟧.faults self.new) result }
-        ensures count { ⟦<SimWorld<R> as Ground>⟧.faults self.new ≡ ⟦<SimWorld<R> as Ground>⟧.faults self.old }
+            ReadsFrom (item_at (tree_of (history_in self.old)) at.now) from into.old into.new count) }
+        ensures unchanged { history_in self.new ≡ history_in self.old }
+        ensures count { Counted result (counts_in self.old) (counts_in self.new) }
     {
         match self.tree().file(at) {
             Some(bytes) => Ok(read_from(bytes, from, into)),
@@ -43,81 +42,76 @@ impl<R: Rule> Files for SimWorld<R> {
         }
     }
 
+    ghost stands = { λ w told. each_stands (effect_of R.effect) w.opening w.log.items w.opened };
+}
+
+// Each call says what history it makes. What the trait says of it follows from that.
+impl<R: Rule> Files for SimWorld<R> {
+    ghost use Rattle.sim_world.specs.World.{history_in, counts_in};
+
     fn clear(&mut self, at: &Rel) -> Result<(), Failed>
         requires { at.now ≢ [] }
-        ensures cleared { OnOk result (IsCleared at.now (⟦<SimWorld<R> as Ground>⟧.history self.new).present) }
-        ensures moments { Passes (InClear at.now (⟦<SimWorld<R> as Ground>⟧.history self.old).present)
-            (⟦<SimWorld<R> as Ground>⟧.history self.old) (⟦<SimWorld<R> as Ground>⟧.history self.new) }
-        ensures cause { HasCause (⟦<SimWorld<R> as Ground>⟧.faults self.old) (⟦<SimWorld<R> as Ground>⟧.faults self.new) result }
-        ensures count { OnOk result (⟦<SimWorld<R> as Ground>⟧.faults self.new ≡ ⟦<SimWorld<R> as Ground>⟧.faults self.old) }
+        ensures made { Makes result (grown (cleared at.now)) IsSame
+            (history_in self.old) (history_in self.new) }
+        ensures count { Counted result (counts_in self.old) (counts_in self.new) }
     {
         let answer = self.log_clear(at);
         self.counted(answer)
     }
 
     fn begin(&mut self, lane: u32) -> Result<(), Failed>
-        requires { IsNoFileAt (⟦<SimWorld<R> as Ground>⟧.history self.old).present.tree dvc_path }
-        ensures begun { OnOk result (IsBegun lane (⟦<SimWorld<R> as Ground>⟧.history self.new).present) }
-        ensures moments { Passes (InBegin lane (⟦<SimWorld<R> as Ground>⟧.history self.old).present)
-            (⟦<SimWorld<R> as Ground>⟧.history self.old) (⟦<SimWorld<R> as Ground>⟧.history self.new) }
-        ensures cause { HasCause (⟦<SimWorld<R> as Ground>⟧.faults self.old) (⟦<SimWorld<R> as Ground>⟧.faults self.new) result }
-        ensures count { OnOk result (⟦<SimWorld<R> as Ground>⟧.faults self.new ≡ ⟦<SimWorld<R> as Ground>⟧.faults self.old) }
+        requires { IsNoFileAt (tree_of (history_in self.old)) dvc_path }
+        ensures made { Makes result (begun lane) IsBeginning
+            (history_in self.old) (history_in self.new) }
+        ensures count { Counted result (counts_in self.old) (counts_in self.new) }
     {
         let answer = self.log_begin(lane);
         self.counted(answer)
     }
 
     fn append(&mut self, lane: u32, bytes: &[u8]) -> Result<(), Failed>
-        requires { IsFileAt (⟦<SimWorld<R> as Ground>⟧.history self.old).present.tree (lane_path lane) }
-        ensures appended { OnOk result (IsAppended lane bytes.now (⟦<SimWorld<R> as Ground>⟧.history self.old).present (⟦<SimWorld<R> as Ground>⟧.history self.new).present) }
-        ensures moments { Passes (InAppend lane (⟦<SimWorld<R> as Ground>⟧.history self.old).present)
-            (⟦<SimWorld<R> as Ground>⟧.history self.old) (⟦<SimWorld<R> as Ground>⟧.history self.new) }
-        ensures cause { HasCause (⟦<SimWorld<R> as Ground>⟧.faults self.old) (⟦<SimWorld<R> as Ground>⟧.faults self.new) result }
-        ensures count { OnOk result (⟦<SimWorld<R> as Ground>⟧.faults self.new ≡ ⟦<SimWorld<R> as Ground>⟧.faults self.old) }
+        requires { IsFileAt (tree_of (history_in self.old)) (lane_path lane) }
+        ensures made { Makes result (appended lane bytes.now) IsSame
+            (history_in self.old) (history_in self.new) }
+        ensures count { Counted result (counts_in self.old) (counts_in self.new) }
     {
         let answer = self.log_append(lane, bytes);
         self.counted(answer)
     }
 
     fn settle(&mut self, lane: u32) -> Result<(), Failed>
-        requires { IsFileAt (⟦<SimWorld<R> as Ground>⟧.history self.old).present.tree (lane_path lane) }
-        ensures settled { OnOk result (IsSettled lane (⟦<SimWorld<R> as Ground>⟧.history self.old).present (⟦<SimWorld<R> as Ground>⟧.history self.new).present) }
-        ensures moments { Passes (InSettle lane (⟦<SimWorld<R> as Ground>⟧.history self.old).present)
-            (⟦<SimWorld<R> as Ground>⟧.history self.old) (⟦<SimWorld<R> as Ground>⟧.history self.new) }
-        ensures cause { HasCause (⟦<SimWorld<R> as Ground>⟧.faults self.old) (⟦<SimWorld<R> as Ground>⟧.faults self.new) result }
-        ensures count { OnOk result (⟦<SimWorld<R> as Ground>⟧.faults self.new ≡ ⟦<SimWorld<R> as Ground>⟧.faults self.old) }
+        requires { IsFileAt (tree_of (history_in self.old)) (lane_path lane) }
+        ensures made { Makes result (firm lane) IsSame
+            (history_in self.old) (history_in self.new) }
+        ensures count { Counted result (counts_in self.old) (counts_in self.new) }
     {
-        let answer = self.log_settle(lane);
+        let answer = self.make(Change::Settled { lane });
         self.counted(answer)
     }
 
     fn publish(&mut self, lane: u32, at: &Rel) -> Result<(), Failed>
         requires apart { under (lane_path lane) at.now ≡ false }
-        requires settled { IsFirmLane lane (⟦<SimWorld<R> as Ground>⟧.history self.old).present }
-        requires room { HasRoom at.now (⟦<SimWorld<R> as Ground>⟧.history self.old).present.tree }
-        ensures published { OnOk result (IsPublished lane at.now (⟦<SimWorld<R> as Ground>⟧.history self.old).present (⟦<SimWorld<R> as Ground>⟧.history self.new).present) }
-        ensures moments { Passes (InPublish lane at.now (⟦<SimWorld<R> as Ground>⟧.history self.old).present)
-            (⟦<SimWorld<R> as Ground>⟧.history self.old) (⟦<SimWorld<R> as Ground>⟧.history self.new) }
-        ensures cause { HasCause (⟦<SimWorld<R> as Ground>⟧.faults self.old) (⟦<SimWorld<R> as Ground>⟧.faults self.new) result }
-        ensures count { OnOk result (⟦<SimWorld<R> as Ground>⟧.faults self.new ≡ ⟦<SimWorld<R> as Ground>⟧.faults self.old) }
+        requires settled { IsFirmLane lane (history_in self.old).present }
+        requires room { HasRoom at.now (tree_of (history_in self.old)) }
+        ensures made { Makes result (moved lane at.now) IsSame
+            (history_in self.old) (history_in self.new) }
+        ensures count { Counted result (counts_in self.old) (counts_in self.new) }
     {
         let answer = self.log_publish(lane, at);
         self.counted(answer)
     }
-
-    ghost stands = { λ w told. each_stands (effect_of R.effect) w.opening w.log.items w.opened };
 }
 
 impl<R: Rule> SimWorld<R> {
+    ghost use Rattle.sim_world.specs.World.{history_in, counts_in};
+
     fn log_clear(&mut self, at: &Rel) -> Result<(), NoMemory>
-        ensures ok { OnOk result (⟦<SimWorld<R> as Ground>⟧.history self.new
-            ≡ grown (cleared at.now) (⟦<SimWorld<R> as Ground>⟧.history self.old)) }
-        ensures err { OnErr result (⟦<SimWorld<R> as Ground>⟧.history self.new
-            ≡ ⟦<SimWorld<R> as Ground>⟧.history self.old) }
-        ensures count { ⟦<SimWorld<R> as Ground>⟧.faults self.new ≡ ⟦<SimWorld<R> as Ground>⟧.faults self.old }
+        ensures made { Makes result (grown (cleared at.now)) IsSame
+            (history_in self.old) (history_in self.new) }
+        ensures count { counts_in self.new ≡ counts_in self.old }
     {
         let at = at.copy(self.alloc())?;
-        self.change(&Change::Cleared { at })
+        self.make(Change::Cleared { at })
     }
 }
 

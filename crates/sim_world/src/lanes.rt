@@ -1,92 +1,79 @@
 // The lanes of a world in memory, in which new bytes stand until they are published.
-ghost use Rattle.std.specs.Prelude.{◌≡◌, ◌++◌, IfOk, OnOk, OnErr};
+ghost use Rattle.std.specs.Prelude.{◌≡◌, ◌++◌, IfOk};
 ghost use Rattle.world_api.specs.Tree.{item_at};
-ghost use Rattle.sim_world.specs.Writing.{held, made_once, with_tmp, begun, IsMakingTmp, IsBeginning, appended, firm, moved};
+ghost use Rattle.sim_world.specs.Call.{Makes, IsSame};
+ghost use Rattle.sim_world.specs.Writing.{held, lane_bytes, made_once, with_tmp, begun, IsMakingTmp, IsBeginning, appended, moved};
 
 use crate::change::Change;
 use crate::{Rule, SimWorld, Tree, Value};
 use dvc_base::{Bytes, NoMemory, Plain, Rel};
 use std::alloc::Global;
-use world_api::{Ground, dvc_path, lane_path, tmp_path};
+use world_api::{dvc_path, lane_path, tmp_path};
 
 impl<R: Rule> SimWorld<R> {
+    ghost use Rattle.sim_world.specs.World.{history_in, counts_in};
+
     // Makes the lane an empty file, and the folders above it where they are missing.
     pub(crate) fn log_begin(&mut self, lane: u32) -> Result<(), NoMemory>
-        ensures ok { OnOk result (⟦<SimWorld<R> as Ground>⟧.history self.new
-            ≡ begun lane (⟦<SimWorld<R> as Ground>⟧.history self.old)) }
-        ensures err { OnErr result (IsBeginning (⟦<SimWorld<R> as Ground>⟧.history self.old)
-            (⟦<SimWorld<R> as Ground>⟧.history self.new)) }
-        ensures count { ⟦<SimWorld<R> as Ground>⟧.faults self.new ≡ ⟦<SimWorld<R> as Ground>⟧.faults self.old }
+        ensures made { Makes result (begun lane) IsBeginning
+            (history_in self.old) (history_in self.new) }
+        ensures count { counts_in self.new ≡ counts_in self.old }
     {
-        let at = lane_path(self.alloc(), lane)?;
-        let value = Value::File(Bytes::of(self.alloc(), b"")?);
         self.make_tmp()?;
-        self.change(&Change::Written { at, value })
+        let value = Value::File(Bytes::of(self.alloc(), b"")?);
+        self.make(Change::Written { lane, value })
     }
 
     // Makes the folder of the lanes, and the one above it.
     fn make_tmp(&mut self) -> Result<(), NoMemory>
-        ensures ok { OnOk result (⟦<SimWorld<R> as Ground>⟧.history self.new
-            ≡ with_tmp (⟦<SimWorld<R> as Ground>⟧.history self.old)) }
-        ensures err { OnErr result (IsMakingTmp (⟦<SimWorld<R> as Ground>⟧.history self.old)
-            (⟦<SimWorld<R> as Ground>⟧.history self.new)) }
-        ensures count { ⟦<SimWorld<R> as Ground>⟧.faults self.new ≡ ⟦<SimWorld<R> as Ground>⟧.faults self.old }
+        ensures made { Makes result with_tmp IsMakingTmp
+            (history_in self.old) (history_in self.new) }
+        ensures count { counts_in self.new ≡ counts_in self.old }
     {
-        let dvc = dvc_path(self.alloc())?;
-        let tmp = tmp_path(self.alloc())?;
-        self.make(dvc)?;
-        self.make(tmp)
+        self.make_folder(dvc_path(self.alloc())?)?;
+        self.make_folder(tmp_path(self.alloc())?)
     }
 
     // Makes the folder, where it doesn't stand.
-    fn make(&mut self, at: Rel) -> Result<(), NoMemory>
-        ensures ok { OnOk result (⟦<SimWorld<R> as Ground>⟧.history self.new
-            ≡ made_once at (⟦<SimWorld<R> as Ground>⟧.history self.old)) }
-        ensures err { OnErr result (⟦<SimWorld<R> as Ground>⟧.history self.new
-            ≡ ⟦<SimWorld<R> as Ground>⟧.history self.old) }
-        ensures count { ⟦<SimWorld<R> as Ground>⟧.faults self.new ≡ ⟦<SimWorld<R> as Ground>⟧.faults self.old }
+    fn make_folder(&mut self, at: Rel) -> Result<(), NoMemory>
+        ensures made { Makes result (made_once at) IsSame
+            (history_in self.old) (history_in self.new) }
+        ensures count { counts_in self.new ≡ counts_in self.old }
     {
         if self.tree().is_folder(&at) {
             return Ok(());
         }
-        self.change(&Change::FolderMade { at })
+        self.make(Change::FolderMade { at })
     }
 
     pub(crate) fn log_append(&mut self, lane: u32, bytes: &[u8]) -> Result<(), NoMemory>
-        ensures ok { OnOk result (⟦<SimWorld<R> as Ground>⟧.history self.new
-            ≡ appended lane bytes.now (⟦<SimWorld<R> as Ground>⟧.history self.old)) }
-        ensures err { OnErr result (⟦<SimWorld<R> as Ground>⟧.history self.new
-            ≡ ⟦<SimWorld<R> as Ground>⟧.history self.old) }
-        ensures count { ⟦<SimWorld<R> as Ground>⟧.faults self.new ≡ ⟦<SimWorld<R> as Ground>⟧.faults self.old }
+        ensures made { Makes result (appended lane bytes.now) IsSame
+            (history_in self.old) (history_in self.new) }
+        ensures count { counts_in self.new ≡ counts_in self.old }
     {
-        let at = lane_path(self.alloc(), lane)?;
-        let value = Value::File(longer(self.alloc(), self.tree(), &at, bytes)?);
-        self.change(&Change::Written { at, value })
-    }
-
-    pub(crate) fn log_settle(&mut self, lane: u32) -> Result<(), NoMemory>
-        ensures ok { OnOk result (⟦<SimWorld<R> as Ground>⟧.history self.new
-            ≡ firm lane (⟦<SimWorld<R> as Ground>⟧.history self.old)) }
-        ensures err { OnErr result (⟦<SimWorld<R> as Ground>⟧.history self.new
-            ≡ ⟦<SimWorld<R> as Ground>⟧.history self.old) }
-        ensures count { ⟦<SimWorld<R> as Ground>⟧.faults self.new ≡ ⟦<SimWorld<R> as Ground>⟧.faults self.old }
-    {
-        let at = lane_path(self.alloc(), lane)?;
-        self.change(&Change::Settled { at })
+        let value = Value::File(longer(self.alloc(), self.tree(), lane, bytes)?);
+        self.make(Change::Written { lane, value })
     }
 
     pub(crate) fn log_publish(&mut self, lane: u32, at: &Rel) -> Result<(), NoMemory>
-        ensures ok { OnOk result (⟦<SimWorld<R> as Ground>⟧.history self.new
-            ≡ moved lane at.now (⟦<SimWorld<R> as Ground>⟧.history self.old)) }
-        ensures err { OnErr result (⟦<SimWorld<R> as Ground>⟧.history self.new
-            ≡ ⟦<SimWorld<R> as Ground>⟧.history self.old) }
-        ensures count { ⟦<SimWorld<R> as Ground>⟧.faults self.new ≡ ⟦<SimWorld<R> as Ground>⟧.faults self.old }
+        ensures made { Makes result (moved lane at.now) IsSame
+            (history_in self.old) (history_in self.new) }
+        ensures count { counts_in self.new ≡ counts_in self.old }
     {
-        let from = lane_path(self.alloc(), lane)?;
-        let value = Value::File(Bytes::of(self.alloc(), held(self.tree(), &from))?);
+        let value = Value::File(longer(self.alloc(), self.tree(), lane, b"")?);
         let at = at.copy(self.alloc())?;
-        self.change(&Change::Published { from, at, value })
+        self.make(Change::Published { lane, at, value })
     }
+}
+
+// What the lane holds, with more bytes behind it.
+fn longer(alloc: Global, tree: &Tree, lane: u32, bytes: &[u8]) -> Result<Bytes, NoMemory>
+    ensures grown { IfOk result (λ all. all ≡ lane_bytes lane tree.now ++ bytes.now) }
+{
+    let at = lane_path(alloc, lane)?;
+    let mut all = Vec::from_slice(alloc, held(tree, &at))?;
+    all.extend_from_slice(bytes)?;
+    Ok(Bytes::from_vec(all))
 }
 
 // The bytes of the file at the path; none where another thing stands.
@@ -97,13 +84,4 @@ fn held<'a>(tree: &'a Tree, at: &Rel) -> &'a [u8]
         Some(bytes) => bytes,
         None => &[],
     }
-}
-
-// What the file at the path holds, with more bytes behind it.
-fn longer(alloc: Global, tree: &Tree, at: &Rel, bytes: &[u8]) -> Result<Bytes, NoMemory>
-    ensures grown { IfOk result (λ all. all ≡ held (item_at tree.now at.now) ++ bytes.now) }
-{
-    let mut all = Vec::from_slice(alloc, held(tree, at))?;
-    all.extend_from_slice(bytes)?;
-    Ok(Bytes::from_vec(all))
 }

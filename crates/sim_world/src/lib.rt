@@ -4,6 +4,7 @@
 mod change;
 mod files;
 mod lanes;
+mod law;
 mod pipe;
 mod rule;
 mod shell;
@@ -12,12 +13,10 @@ mod tree;
 mod value;
 mod world;
 
+pub use law::book_law;
 pub use pipe::Pipe;
 pub use rule::{Given, Made, Rule};
 pub use sink::MemSink;
 pub use tree::Tree;
 pub use value::{PathValue, PathValues, Value};
 pub use world::{Jobs, SimWorld};
-
-#[cfg(test)]
-mod tests;

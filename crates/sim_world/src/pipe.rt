@@ -1,5 +1,5 @@
 // A rule that answers a few commands as `sh` does.
-ghost use Rattle.std.specs.Prelude.{◌≡◌, ◌==◌, ◌∷◌, ◌<◌, ◌^◌, [], length, map, pos, IfOk, OnOk, IfSome};
+ghost use Rattle.std.specs.Prelude.{◌≡◌, ◌==◌, ◌∷◌, ◌++◌, ◌<◌, ◌^◌, [], length, map, pos, IfOk, OnOk, IfSome};
 ghost use Rattle.std.specs.List.{slice_split, list_all};
 ghost use Rattle.sim_world.specs.Answer.{found};
 ghost use Rattle.sim_world.specs.declared.value.Value.TheVariants.{File};
@@ -41,11 +41,9 @@ fn answer_words(
 {
     match words {
         [name, arg] => answer_two(alloc, name, arg, given, made),
-        [name, from, arrow, to] if is_copy(name, from, arrow, to) => {
-            answer_copy(alloc, from, to, given, made)
-        }
-        [name, format, text, arrow, to] if is_print(name, format, text, arrow, to) => {
-            answer_print(alloc, text, to, given, made)
+        [name, from, arrow, to] => answer_four(alloc, name, from, arrow, to, given, made),
+        [name, format, text, arrow, to] => {
+            answer_five(alloc, name, format, text, arrow, to, given, made)
         }
         _ => Ok(Exit { code: 127 }),
     }
@@ -65,6 +63,41 @@ fn answer_two(
     }
     if name == "exit" {
         return Ok(exit_of(arg));
+    }
+    Ok(Exit { code: 127 })
+}
+
+fn answer_four(
+    alloc: Global,
+    name: &str,
+    from: &str,
+    arrow: &str,
+    to: &str,
+    given: &Given,
+    made: &mut Made,
+) -> Result<Exit, NoMemory>
+    ensures told { IsStep (of_four name.now from.now arrow.now to.now given.now made.old) result made.new }
+{
+    if is_copy(name, from, arrow, to) {
+        return answer_copy(alloc, from, to, given, made);
+    }
+    Ok(Exit { code: 127 })
+}
+
+fn answer_five(
+    alloc: Global,
+    name: &str,
+    format: &str,
+    text: &str,
+    arrow: &str,
+    to: &str,
+    given: &Given,
+    made: &mut Made,
+) -> Result<Exit, NoMemory>
+    ensures told { IsStep (of_five name.now format.now text.now arrow.now to.now given.now made.old) result made.new }
+{
+    if is_print(name, format, text, arrow, to) {
+        return answer_print(alloc, text, to, given, made);
     }
     Ok(Exit { code: 127 })
 }
@@ -166,11 +199,23 @@ fn filled(alloc: Global, outs: &[Text], bytes: &Bytes) -> Result<PathValues, NoM
 {
     let mut values = PathValues::new(alloc);
     for out in outs {
-        let path = out.copy(alloc)?;
-        let value = Value::File(bytes.copy(alloc)?);
-        values.push(PathValue { path, value })?;
+        push_file(alloc, &mut values, out.as_str(), bytes.as_slice())?;
     }
     Ok(values)
+}
+
+fn push_file(
+    alloc: Global,
+    values: &mut PathValues,
+    path: &str,
+    bytes: &[u8],
+) -> Result<(), NoMemory>
+    ensures pushed { OnOk result (values.new ≡ values.old ++ record { path = path.now; value = File bytes.now } ∷ []) }
+{
+    let path = Text::of(alloc, path)?;
+    let bytes = Bytes::of(alloc, bytes)?;
+    let value = Value::File(bytes);
+    values.push(PathValue { path, value })
 }
 
 // `cat P > Q`
@@ -238,13 +283,25 @@ fn source(alloc: Global, given: &Given, made: &Made, path: &str) -> Result<Value
 fn put_file(alloc: Global, out: &str, bytes: &[u8], made: &mut Made) -> Result<(), NoMemory>
     ensures put { OnOk result (made.new ≡ with_file out.now bytes.now made.old) }
 {
-    let path = Text::of(alloc, out)?;
-    let value = Value::File(Bytes::of(alloc, bytes)?);
+    made.outs = with_file(alloc, out, bytes, made)?;
+    Ok(())
+}
+
+fn with_file(alloc: Global, out: &str, bytes: &[u8], made: &Made) -> Result<PathValues, NoMemory>
+    ensures first { IfOk result (λ outs. record { outs = outs } ≡ with_file out.now bytes.now made.now) }
+{
     let mut outs = PathValues::new(alloc);
-    outs.push(PathValue { path, value })?;
-    for entry in made.outs.as_slice() {
-        outs.push(entry.copy(alloc)?)?;
+    push_file(alloc, &mut outs, out, bytes)?;
+    push_all(alloc, &mut outs, made.outs.as_slice())?;
+    Ok(outs)
+}
+
+fn push_all(alloc: Global, values: &mut PathValues, more: &[PathValue]) -> Result<(), NoMemory>
+    ensures pushed { OnOk result (values.new ≡ values.old ++ more.now) }
+{
+    for entry in more {
+        let entry = entry.copy(alloc)?;
+        values.push(entry)?;
     }
-    made.outs = outs;
     Ok(())
 }

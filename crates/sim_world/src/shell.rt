@@ -1,33 +1,31 @@
 // The programs of a world in memory, which its rule answers.
-ghost use Rattle.std.specs.Prelude.{◌≡◌, ◌++◌, ◌∷◌, [], List, IsTrue, IfOk, OnOk, OnErr, if◌then◌else◌, pos};
-ghost use Rattle.std.specs.Ordering.{int_eq};
+ghost use Rattle.std.specs.Prelude.{◌≡◌, ◌++◌, ◌∷◌, [], IsTrue, IfOk, OnOk};
 ghost use Rattle.world_api.specs.Tree.{value_at};
 ghost use Rattle.world_api.specs.Effect.{path_from, given_values};
-ghost use Rattle.world_api.specs.History.{Passes, HasCause, Stays, itself};
-ghost use Rattle.world_api.specs.Calls.{is_runnable, HasFolders, IsRun, InRun};
-ghost use Rattle.sim_world.specs.Answer.{answered, plain_value, plain_values, unmade};
-ghost use Rattle.sim_world.specs.Run.{loosened_outs, left_outs, run_changes};
+ghost use Rattle.world_api.specs.Outside.{tree_of};
+ghost use Rattle.world_api.specs.Calls.{is_runnable, HasFolders};
+ghost use Rattle.sim_world.specs.Answer.{answered, found, plain_value, plain_values, unmade};
+ghost use Rattle.sim_world.specs.Call.{Makes, IsSame, Counted};
+ghost use Rattle.sim_world.specs.Change.{changed, grown};
+ghost use Rattle.sim_world.specs.declared.change.Change.TheVariants.{Started, Left, Ran};
+ghost use Rattle.sim_world.specs.Run.{left_outs, out_changes, run_changes, MakesAll, RunsBy};
 
 use crate::change::Change;
 use crate::value::find_value;
 use crate::{Given, Made, PathValue, PathValues, Rule, SimWorld, Tree, Value};
 use dvc_base::{Bytes, Failed, NoMemory, Plain, Rel, Text};
 use std::alloc::Global;
-use world_api::{Exit, Ground, Job, Shell, World};
+use world_api::{Exit, Job, Shell, World};
 
+// A run says what history it makes. What the trait says of it follows from that.
 impl<R: Rule> Shell for SimWorld<R> {
+    ghost use Rattle.sim_world.specs.World.{history_in, counts_in};
+
     fn run(&mut self, job: &Job) -> Result<Exit, Failed>
         requires texts { IsTrue (is_runnable job.now) }
-        requires folders { HasFolders job.now (⟦<SimWorld<R> as Ground>⟧.history self.old).present.tree }
-        ensures ran { IfOk result (λ exit. IsRun job.now exit.code
-            (⟦<SimWorld<R> as Ground>⟧.history self.old).present (⟦<SimWorld<R> as Ground>⟧.history self.new).present) }
-        ensures not_run { OnErr result (Stays itself
-            (⟦<SimWorld<R> as Ground>⟧.history self.old).present.aside
-            (⟦<SimWorld<R> as Ground>⟧.history self.new).present.aside) }
-        ensures moments { Passes (InRun job.now (⟦<SimWorld<R> as Ground>⟧.history self.old).present)
-            (⟦<SimWorld<R> as Ground>⟧.history self.old) (⟦<SimWorld<R> as Ground>⟧.history self.new) }
-        ensures cause { HasCause (⟦<SimWorld<R> as Ground>⟧.faults self.old) (⟦<SimWorld<R> as Ground>⟧.faults self.new) result }
-        ensures count { OnOk result (⟦<SimWorld<R> as Ground>⟧.faults self.new ≡ ⟦<SimWorld<R> as Ground>⟧.faults self.old) }
+        requires folders { HasFolders job.now (tree_of (history_in self.old)) }
+        ensures made { RunsBy R.effect job.now result (history_in self.old) (history_in self.new) }
+        ensures count { Counted result (counts_in self.old) (counts_in self.new) }
     {
         let answer = self.log_run(job);
         self.counted(answer)
@@ -37,26 +35,103 @@ impl<R: Rule> Shell for SimWorld<R> {
 impl<R: Rule> World for SimWorld<R> {}
 
 impl<R: Rule> SimWorld<R> {
+    ghost use Rattle.sim_world.specs.World.{history_in, counts_in};
+
     fn log_run(&mut self, job: &Job) -> Result<Exit, NoMemory>
-        requires texts { IsTrue (is_runnable job.now) }
-        requires folders { HasFolders job.now (⟦<SimWorld<R> as Ground>⟧.history self.old).present.tree }
-        ensures ran { IfOk result (λ exit. IsRun job.now exit.code
-            (⟦<SimWorld<R> as Ground>⟧.history self.old).present (⟦<SimWorld<R> as Ground>⟧.history self.new).present) }
-        ensures not_run { OnErr result (Stays itself
-            (⟦<SimWorld<R> as Ground>⟧.history self.old).present.aside
-            (⟦<SimWorld<R> as Ground>⟧.history self.new).present.aside) }
-        ensures moments { Passes (InRun job.now (⟦<SimWorld<R> as Ground>⟧.history self.old).present)
-            (⟦<SimWorld<R> as Ground>⟧.history self.old) (⟦<SimWorld<R> as Ground>⟧.history self.new) }
-        ensures count { ⟦<SimWorld<R> as Ground>⟧.faults self.new ≡ ⟦<SimWorld<R> as Ground>⟧.faults self.old }
+        ensures made { RunsBy R.effect job.now result (history_in self.old) (history_in self.new) }
+        ensures count { counts_in self.new ≡ counts_in self.old }
     {
-        let alloc = self.alloc();
-        let given = given_of(alloc, self.tree(), job)?;
-        let mut made = nothing_made(alloc, job)?;
-        let exit = answer_all::<R>(alloc, job.commands.as_slice(), given, &mut made)?;
-        let changes = changes_of(alloc, job, &exit, &made)?;
-        self.change_all(changes.as_slice())?;
+        let mut made = nothing_made(self.alloc(), job)?;
+        self.run_commands(job, &mut made)
+    }
+
+    // Runs the commands, which have made nothing yet.
+    fn run_commands(&mut self, job: &Job, made: &mut Made) -> Result<Exit, NoMemory>
+        requires { made.old.outs ≡ unmade job.now.outs }
+        ensures made { RunsBy R.effect job.now result (history_in self.old) (history_in self.new) }
+        ensures count { counts_in self.new ≡ counts_in self.old }
+    {
+        let exit = answer_job::<R>(self.alloc(), self.tree(), job, made)?;
+        self.make_run(job, &exit, made)?;
         Ok(exit)
     }
+
+    // Makes all that a run changes, in order, up to the first that is refused.
+    fn make_run(&mut self, job: &Job, exit: &Exit, made: &Made) -> Result<(), NoMemory>
+        ensures made { MakesAll result (run_changes job.now exit.now.code made.now)
+            (history_in self.old) (history_in self.new) }
+        ensures count { counts_in self.new ≡ counts_in self.old }
+    {
+        self.make_start(job)?;
+        self.make_outs(job, exit, made)?;
+        self.make_end(job)
+    }
+
+    fn make_start(&mut self, job: &Job) -> Result<(), NoMemory>
+        ensures made { Makes result (grown (changed (Started job.now))) IsSame
+            (history_in self.old) (history_in self.new) }
+        ensures count { counts_in self.new ≡ counts_in self.old }
+    {
+        let job = job.copy(self.alloc())?;
+        self.make(Change::Started { job })
+    }
+
+    fn make_end(&mut self, job: &Job) -> Result<(), NoMemory>
+        ensures made { Makes result (grown (changed (Ran job.now))) IsSame
+            (history_in self.old) (history_in self.new) }
+        ensures count { counts_in self.new ≡ counts_in self.old }
+    {
+        let job = job.copy(self.alloc())?;
+        self.make(Change::Ran { job })
+    }
+
+    // The outputs get what was made for them, if the commands ended well.
+    fn make_outs(&mut self, job: &Job, exit: &Exit, made: &Made) -> Result<(), NoMemory>
+        ensures made { MakesAll result (out_changes job.now exit.now.code made.now)
+            (history_in self.old) (history_in self.new) }
+        ensures count { counts_in self.new ≡ counts_in self.old }
+    {
+        if exit.code != 0 {
+            return Ok(());
+        }
+        self.leave_made(job, made)
+    }
+
+    fn leave_made(&mut self, job: &Job, made: &Made) -> Result<(), NoMemory>
+        ensures made { MakesAll result (left_outs job.now made.now)
+            (history_in self.old) (history_in self.new) }
+        ensures count { counts_in self.new ≡ counts_in self.old }
+    {
+        for out in job.outs.as_slice() {
+            self.leave_out(&job.dir, out, made)?;
+        }
+        Ok(())
+    }
+
+    fn leave_out(&mut self, dir: &Rel, out: &Text, made: &Made) -> Result<(), NoMemory>
+        ensures made { Makes result (grown (changed (Left (path_from dir.now out.now) (found made.now.outs out.now)))) IsSame
+            (history_in self.old) (history_in self.new) }
+        ensures count { counts_in self.new ≡ counts_in self.old }
+    {
+        let at = path_of(self.alloc(), dir, out)?;
+        let value = find_value(self.alloc(), &made.outs, out.as_str())?;
+        self.make(Change::Left { at, value })
+    }
+}
+
+// What the commands of a job answer and make, after what was made before.
+fn answer_job<R: Rule>(
+    alloc: Global,
+    tree: &Tree,
+    job: &Job,
+    made: &mut Made,
+) -> Result<Exit, NoMemory>
+    ensures told { IfOk result (λ exit.
+        answered R.effect (plain_values (given_values tree.now job.now.dir job.now.deps)) job.now.outs job.now.commands made.old
+        ≡ record { code = exit.code; made = made.new }) }
+{
+    let mut given = given_of(alloc, tree, job)?;
+    answer_all::<R>(alloc, job.commands.as_slice(), &mut given, made)
 }
 
 // What the commands of a job are given; the command itself is filled in for each.
@@ -76,12 +151,30 @@ fn values_of(alloc: Global, tree: &Tree, dir: &Rel, texts: &[Text]) -> Result<Pa
 {
     let mut values = PathValues::new(alloc);
     for text in texts {
-        let at = path_of(alloc, dir, text)?;
-        let value = value_of(alloc, tree, &at)?;
-        let path = text.copy(alloc)?;
-        values.push(PathValue { path, value })?;
+        push_value(alloc, &mut values, tree, dir, text)?;
     }
     Ok(values)
+}
+
+fn push_value(
+    alloc: Global,
+    values: &mut PathValues,
+    tree: &Tree,
+    dir: &Rel,
+    text: &Text,
+) -> Result<(), NoMemory>
+    ensures pushed { OnOk result (values.new ≡ values.old ++ record { path = text.now; value = plain_value (value_at tree.now (path_from dir.now text.now)) } ∷ []) }
+{
+    let value = value_from(alloc, tree, dir, text)?;
+    let path = text.copy(alloc)?;
+    values.push(PathValue { path, value })
+}
+
+fn value_from(alloc: Global, tree: &Tree, dir: &Rel, text: &Text) -> Result<Value, NoMemory>
+    ensures told { IfOk result (λ value. value ≡ plain_value (value_at tree.now (path_from dir.now text.now))) }
+{
+    let at = path_of(alloc, dir, text)?;
+    value_of(alloc, tree, &at)
 }
 
 // The path that a text of a job names. A text that names none is refused here as if memory were short.
@@ -118,74 +211,18 @@ fn nothing_made(alloc: Global, job: &Job) -> Result<Made, NoMemory>
 fn answer_all<R: Rule>(
     alloc: Global,
     commands: &[Text],
-    mut given: Given,
+    given: &mut Given,
     made: &mut Made,
 ) -> Result<Exit, NoMemory>
-    ensures told { IfOk result (λ exit. answered R.effect given.deps given.outs commands.now made.old
+    ensures told { IfOk result (λ exit. answered R.effect given.old.deps given.old.outs commands.now made.old
         ≡ record { code = exit.code; made = made.new }) }
 {
     for command in commands {
         given.command = command.copy(alloc)?;
-        let exit = R::answer(alloc, &given, made)?;
+        let exit = R::answer(alloc, given, made)?;
         if exit.code != 0 {
             return Ok(exit);
         }
     }
     Ok(Exit { code: 0 })
-}
-
-// All that a run changes, in order.
-fn changes_of(alloc: Global, job: &Job, exit: &Exit, made: &Made) -> Result<Vec<Change>, NoMemory>
-    ensures run { IfOk result (λ changes. changes.items ≡ run_changes job.now exit.now.code made.now) }
-{
-    let mut changes = Vec::new(alloc);
-    push_loosened(alloc, &mut changes, job)?;
-    push_left(alloc, &mut changes, job, exit, made)?;
-    changes.push(Change::Ran {
-        job: job.copy(alloc)?,
-    })?;
-    Ok(changes)
-}
-
-fn push_loosened(alloc: Global, changes: &mut Vec<Change>, job: &Job) -> Result<(), NoMemory>
-    ensures pushed { OnOk result (changes.new.items ≡ changes.old.items ++ loosened_outs job.now) }
-{
-    for out in job.outs.as_slice() {
-        let at = path_of(alloc, &job.dir, out)?;
-        changes.push(Change::Loosened { at })?;
-    }
-    Ok(())
-}
-
-// The outputs get what was made for them, if the commands ended well.
-fn push_left(
-    alloc: Global,
-    changes: &mut Vec<Change>,
-    job: &Job,
-    exit: &Exit,
-    made: &Made,
-) -> Result<(), NoMemory>
-    ensures pushed { OnOk result (changes.new.items ≡ changes.old.items
-        ++ (if int_eq exit.now.code (pos 0) then left_outs job.now made.now else [])) }
-{
-    if exit.code != 0 {
-        return Ok(());
-    }
-    push_made(alloc, changes, job, made)
-}
-
-fn push_made(
-    alloc: Global,
-    changes: &mut Vec<Change>,
-    job: &Job,
-    made: &Made,
-) -> Result<(), NoMemory>
-    ensures pushed { OnOk result (changes.new.items ≡ changes.old.items ++ left_outs job.now made.now) }
-{
-    for out in job.outs.as_slice() {
-        let at = path_of(alloc, &job.dir, out)?;
-        let value = find_value(alloc, &made.outs, out.as_str())?;
-        changes.push(Change::Left { at, value })?;
-    }
-    Ok(())
 }

@@ -2,7 +2,7 @@
 ghost use Rattle.std.specs.Prelude.{◌≡◌, ◌≢◌, [], IfOk, OnOk, OnErr, option_map, option_copied, Some, None};
 ghost use Rattle.std.specs.Ordering.{eq_by_cmp};
 ghost use Rattle.std.specs.FinMap.{find, insert, empty};
-ghost use Rattle.world_api.specs.Tree.{IsTree, item_at, path_cmp, folder};
+ghost use Rattle.world_api.specs.Tree.{IsTree, item_at, path_cmp, folder, file};
 ghost use Rattle.world_api.specs.Calls.{kind_of, parent};
 ghost use Rattle.sim_world.specs.Edits.{is_root, is_folder, has_place, without, with_folders, edited_tree, left_tree, made_tree, published_tree, put_value, place};
 ghost use Rattle.sim_world.specs.Found.{bytes_of};
@@ -168,7 +168,7 @@ impl Tree {
             return Ok(());
         }
         let mut entries = copy_entries(alloc, &self.entries)?;
-        put(&mut entries, at.copy(alloc)?, Node::Folder)?;
+        put_folder(alloc, &mut entries, at)?;
         self.entries = entries;
         Ok(())
     }
@@ -288,7 +288,27 @@ fn put_folders(alloc: Global, entries: &mut Vec<Entry>, at: &Rel) -> Result<(), 
     }
     let above = parent_of(alloc, at)?;
     put_folders(alloc, entries, &above)?;
-    put(entries, at.copy(alloc)?, Node::Folder)
+    put_folder(alloc, entries, at)
+}
+
+fn put_folder(alloc: Global, entries: &mut Vec<Entry>, at: &Rel) -> Result<(), NoMemory>
+    ensures ok { OnOk result (tree_of entries.new.items ≡ insert (tree_of entries.old.items) at.now folder) }
+{
+    let path = at.copy(alloc)?;
+    put(entries, path, Node::Folder)
+}
+
+fn put_file(
+    alloc: Global,
+    entries: &mut Vec<Entry>,
+    at: &Rel,
+    bytes: &Bytes,
+) -> Result<(), NoMemory>
+    ensures ok { OnOk result (tree_of entries.new.items ≡ insert (tree_of entries.old.items) at.now (file bytes.now)) }
+{
+    let path = at.copy(alloc)?;
+    let bytes = bytes.copy(alloc)?;
+    put(entries, path, Node::File(bytes))
 }
 
 fn put_value(
@@ -305,7 +325,7 @@ fn put_value(
         Value::File(bytes) => {
             let above = parent_of(alloc, at)?;
             put_folders(alloc, entries, &above)?;
-            put(entries, at.copy(alloc)?, Node::File(bytes.copy(alloc)?))
+            put_file(alloc, entries, at, bytes)
         }
     }
 }
@@ -315,6 +335,6 @@ fn place(alloc: Global, entries: &mut Vec<Entry>, at: &Rel, value: &Value) -> Re
 {
     match value {
         Value::Nothing => Ok(()),
-        Value::File(bytes) => put(entries, at.copy(alloc)?, Node::File(bytes.copy(alloc)?)),
+        Value::File(bytes) => put_file(alloc, entries, at, bytes),
     }
 }

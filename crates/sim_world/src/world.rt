@@ -1,12 +1,13 @@
 // A world in memory: a tree, the jobs that were run, and the log of changes from which its history is told.
-ghost use Rattle.std.specs.Prelude.{◌≡◌, ◌≢◌, [], ◌∷◌, Some, None, false, OnOk, OnErr, IfOk, IsOk, IsErr, MatchResult, Ok};
-ghost use Rattle.sim_world.specs.Answer.{effect_of};
-ghost use Rattle.sim_world.specs.Change.{history_of, opened, edited, changed, grown, replay, IsFront};
-ghost use Rattle.sim_world.specs.Sunk.{risen};
+ghost use Rattle.std.specs.Prelude.{◌≡◌, ◌≢◌, [], Some, None, OnOk, IfOk, MatchResult, IsErr, Ok};
 ghost use Rattle.std.specs.Coded.{Coded-set};
 ghost use Rattle.world_api.specs.Tree.{IsTree};
 ghost use Rattle.world_api.specs.History.{HasCause};
+ghost use Rattle.world_api.specs.Outside.{tree_of, jobs_of};
+ghost use Rattle.sim_world.specs.Answer.{effect_of};
 ghost use Rattle.sim_world.specs.Applied.{tree_after, jobs_after};
+ghost use Rattle.sim_world.specs.Call.{Makes, IsSame, Counted, IsEdited};
+ghost use Rattle.sim_world.specs.Change.{opened, edited, changed, grown};
 ghost use Rattle.sim_world.specs.TreeCode.{IsTree-prop, tree_code};
 
 use crate::change::{Change, record_change};
@@ -27,6 +28,7 @@ pub struct SimWorld<R: Rule> {
     log: Vec<Change>,
     tree: Tree,
     jobs: Jobs,
+    failed: u64,
     starved: u64,
     rule: PhantomData<R>,
     ghost opened: { IsTree opening } by { IsTree-prop opening },
@@ -41,18 +43,19 @@ impl<R: Rule> Ground for SimWorld<R> {
 
     ghost tells = { true };
 
-    ghost faults = { λ w. record { origin = []; count = w.starved } };
+    ghost faults = { λ w. record { origin = []; count = w.failed } };
 
     ghost history = { λ w. history_of (effect_of R.effect) w.opening w.log.items };
 }
 
 impl<R: Rule> SimWorld<R> {
+    ghost use Rattle.sim_world.specs.World.{history_in, counts_in};
+
     /// A world that holds the tree: nothing is loose, no job has run, nothing has failed.
     pub fn new(alloc: Global, tree: Tree) -> Result<SimWorld<R>, NoMemory>
-        ensures told { IfOk result (λ world. ⟦<SimWorld<R> as Ground>⟧.history world
+        ensures told { IfOk result (λ world. history_in world
             ≡ record { present = opened (effect_of R.effect) tree; past = []; under = [] }) }
-        ensures count { IfOk result (λ world. ⟦<SimWorld<R> as Ground>⟧.faults world
-            ≡ record { origin = []; count = 0 }) }
+        ensures count { IfOk result (λ world. counts_in world ≡ record { failed = 0; starved = 0 }) }
     {
         tree.check();
         let opening = tree.copy(alloc)?;
@@ -62,43 +65,44 @@ impl<R: Rule> SimWorld<R> {
             log: Vec::new(alloc),
             tree,
             jobs: Jobs::new(alloc),
+            failed: 0,
             starved: 0,
             rule: PhantomData,
         })
     }
 
     /// Puts the value at the path, in place of what stands there. A file gets the folders above it, in place of a file
-    /// there. It is one moment.
+    /// there. It is one moment, and what it wrote isn't loose.
     pub fn edit(&mut self, at: &Rel, value: &Value) -> Result<(), NoMemory>
         requires { at.now ≢ [] }
-        ensures ok { OnOk result (⟦<SimWorld<R> as Ground>⟧.history self.new
-            ≡ grown (edited at.now value.now) (⟦<SimWorld<R> as Ground>⟧.history self.old)) }
-        ensures err { OnErr result (⟦<SimWorld<R> as Ground>⟧.history self.new
-            ≡ ⟦<SimWorld<R> as Ground>⟧.history self.old) }
-        ensures count { ⟦<SimWorld<R> as Ground>⟧.faults self.new ≡ ⟦<SimWorld<R> as Ground>⟧.faults self.old }
+        ensures made { Makes result (grown (edited at.now value.now)) IsSame
+            (history_in self.old) (history_in self.new) }
+        ensures edited { OnOk result (IsEdited at.now value.now
+            (history_in self.old).present (history_in self.new).present) }
+        ensures count { counts_in self.new ≡ counts_in self.old }
     {
         let at = at.copy(self.alloc)?;
         let value = value.copy(self.alloc)?;
-        self.change(&Change::Edited { at, value })
+        self.make(Change::Edited { at, value })
     }
 
     /// What stands there now.
     pub fn tree(&self) -> &Tree
-        ensures told { result.now ≡ (⟦<SimWorld<R> as Ground>⟧.history self.now).present.tree }
+        ensures told { result.now ≡ tree_of (history_in self.now) }
     {
         &self.tree
     }
 
     /// The jobs that were run so far.
     pub fn jobs(&self) -> &Jobs
-        ensures told { result.now ≡ (⟦<SimWorld<R> as Ground>⟧.history self.now).present.aside.fixed.ran }
+        ensures told { result.now ≡ jobs_of (history_in self.now) }
     {
         &self.jobs
     }
 
-    /// How often a call has failed, each time for want of memory.
+    /// How many growths found no memory in a trait's call.
     pub fn starved(&self) -> u64
-        ensures told { result ≡ (⟦<SimWorld<R> as Ground>⟧.faults self.now).count }
+        ensures told { result ≡ (counts_in self.now).starved }
     {
         self.starved
     }
@@ -107,13 +111,11 @@ impl<R: Rule> SimWorld<R> {
         self.alloc
     }
 
-    // Makes one change, or does nothing at all.
-    pub(crate) fn change(&mut self, change: &Change) -> Result<(), NoMemory>
-        ensures ok { OnOk result (⟦<SimWorld<R> as Ground>⟧.history self.new
-            ≡ grown (changed change.now) (⟦<SimWorld<R> as Ground>⟧.history self.old)) }
-        ensures err { OnErr result (⟦<SimWorld<R> as Ground>⟧.history self.new
-            ≡ ⟦<SimWorld<R> as Ground>⟧.history self.old) }
-        ensures count { self.new.starved ≡ self.old.starved }
+    // Makes the change, or does nothing at all.
+    pub(crate) fn make(&mut self, change: Change) -> Result<(), NoMemory>
+        ensures made { Makes result (grown (changed change)) IsSame
+            (history_in self.old) (history_in self.new) }
+        ensures count { counts_in self.new ≡ counts_in self.old }
     {
         record_change(
             self.alloc,
@@ -124,31 +126,16 @@ impl<R: Rule> SimWorld<R> {
         )
     }
 
-    // Makes the changes one after another, up to the first that is refused.
-    pub(crate) fn change_all(&mut self, changes: &[Change]) -> Result<(), NoMemory>
-        ensures ok { OnOk result (⟦<SimWorld<R> as Ground>⟧.history self.new
-            ≡ replay (⟦<SimWorld<R> as Ground>⟧.history self.old) changes.now) }
-        ensures err { OnErr result (IsFront changes.now (⟦<SimWorld<R> as Ground>⟧.history self.old)
-            (⟦<SimWorld<R> as Ground>⟧.history self.new)) }
-        ensures count { ⟦<SimWorld<R> as Ground>⟧.faults self.new ≡ ⟦<SimWorld<R> as Ground>⟧.faults self.old }
-    {
-        for change in changes {
-            self.change(change)?;
-        }
-        Ok(())
-    }
-
     // Counts a refusal of memory.
     pub(crate) fn counted<T>(&mut self, answer: Result<T, NoMemory>) -> Result<T, Failed>
-        ensures answer { MatchResult answer
-            (λ value. (result ≡ Ok value) × (self.new.starved ≡ self.old.starved))
-            (λ _. IsErr result × (self.new.starved ≡ risen self.old.starved)) }
-        ensures same { ⟦<SimWorld<R> as Ground>⟧.history self.new ≡ ⟦<SimWorld<R> as Ground>⟧.history self.old }
-        ensures cause { HasCause (⟦<SimWorld<R> as Ground>⟧.faults self.old) (⟦<SimWorld<R> as Ground>⟧.faults self.new) result }
+        ensures answer { MatchResult answer (λ value. result ≡ Ok value) (λ _. IsErr result) }
+        ensures same { history_in self.new ≡ history_in self.old }
+        ensures count { Counted result (counts_in self.old) (counts_in self.new) }
     {
         match answer {
             Ok(value) => Ok(value),
             Err(_) => {
+                self.failed = self.failed.saturating_add(1);
                 self.starved = self.starved.saturating_add(1);
                 Err(Failed)
             }

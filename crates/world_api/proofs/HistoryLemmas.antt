@@ -1,9 +1,9 @@
--- Laws of what a world tells: of `Passes`, `Keeps`, `KeepsPaths`, `Stays` and `HasCause`.
+-- Laws of what a world tells: of `Passes`, `Keeps`, `KeepsPaths` and `Stays`.
 --     passes_none, passes_same     no moment but the present
 --     passes_then, passes_on       one stretch of moments after another
 --     passes_weaker                what follows from each moment's property
 --     .._itself, .._then, .._in    of a change of nothing, of one after another, and of a larger area
-use Rattle.std.proofs.Common.{◌≡◌, Bool, false, List, [], ◌∷◌, ◌++◌, refl, sym, ap, subst, ◌∙◌, append_assoc}
+use Rattle.std.proofs.Common.{◌≡◌, inl, inr, Bool, false, List, [], ◌∷◌, ◌++◌, refl, sym, ap, subst, ◌∙◌, append_assoc}
 use Rattle.std.specs.List.{AllByRecursion}
 use Rattle.dvc_base.specs.Path.{Path}
 use Rattle.world_api.specs.History.{Fixed, Aside, Moment, History, Stays, itself, KeepsPaths, Keeps, Passes}
@@ -21,16 +21,18 @@ each_weaker P Q (x ∷ xs) f a = (f x a.0, each_weaker P Q xs f a.1)
 -- ---- `Passes`
 
 pub passes_none : (P : Moment → Type 0) (h : History) → P h.present → Passes P h h
-passes_none P h p = record { since = []; grown = refl; each = tt; under = ([], refl); now = p }
+passes_none P h p = record { since = []; grown = refl; start = inl refl; each = tt; under = ([], refl); now = p }
 
 pub passes_same : (P : Moment → Type 0) (a b : History) → b ≡ a → P a.present → Passes P a b
 passes_same P a b e p = subst (λ (h : History). Passes P a h) (sym e) (passes_none P a p)
 
-pub passes_then : (P : Moment → Type 0) (a b c : History) → Passes P a b → Passes P b c → Passes P a c
-passes_then P a b c x y =
+-- one stretch after another, where the first begins with its old present
+passes_joined : (P : Moment → Type 0) (a b c : History) (x : Passes P a b) (y : Passes P b c) → ((more : List Moment) × (x.since ≡ more ++ a.present ∷ [])) → Passes P a c
+passes_joined P a b c x y first =
     record {
       since = y.since ++ x.since;
       grown = y.grown ∙ ap (λ (l : List Moment). y.since ++ l) x.grown ∙ sym (append_assoc y.since x.since a.past);
+      start = inr (y.since ++ first.0, ap (λ (l : List Moment). y.since ++ l) first.1 ∙ sym (append_assoc y.since first.0 (a.present ∷ [])));
       each = each_append P y.since x.since y.each x.each;
       under = (
         y.under.0 ++ x.under.0,
@@ -39,9 +41,23 @@ passes_then P a b c x y =
       now = y.now;
     }
 
+pub passes_then : (P : Moment → Type 0) (a b c : History) → Passes P a b → Passes P b c → Passes P a c
+passes_then P a b c x y =
+    elim x.start [
+      | inl same ↦ subst (λ (h : History). Passes P h c) same y
+      | inr first ↦ passes_joined P a b c x y first
+    ]
+
 pub passes_weaker : (P Q : Moment → Type 0) (a b : History) → ((m : Moment) → P m → Q m) → Passes P a b → Passes Q a b
 passes_weaker P Q a b f x =
-    record { since = x.since; grown = x.grown; each = each_weaker P Q x.since f x.each; under = x.under; now = f b.present x.now }
+    record {
+      since = x.since;
+      grown = x.grown;
+      start = x.start;
+      each = each_weaker P Q x.since f x.each;
+      under = x.under;
+      now = f b.present x.now;
+    }
 
 -- so far P; a call whose moments have Q follows, and what has Q has P
 pub passes_on : (P Q : Moment → Type 0) (a b c : History) → Passes P a b → ((m : Moment) → Q m → P m) → Passes Q b c → Passes P a c

@@ -13,7 +13,8 @@ use Rattle.dvc_base.proofs.NameLemmas.{IsPiece-tested}
 use Rattle.dvc_base.proofs.PathLemmas.{under-refl, under-trans, under-antisym, under-overlap}
 use Rattle.world_api.specs.Effect.{path_or_root, path_from}
 use Rattle.world_api.specs.Calls.{parent}
-use Rattle.world_api.specs.Writes.{dvc_path, tmp_path, lane_path, is_at, in_scratch, IsNoScratch}
+use Rattle.world_api.specs.Layout.{dvc_path, tmp_path, lane_path}
+use Rattle.world_api.specs.Writes.{is_at, in_scratch, IsNoScratch}
 
 -- ---- names
 

@@ -11,7 +11,8 @@ use Rattle.dvc_base.proofs.PathLemmas.{under-trans}
 use Rattle.world_api.specs.Tree.{folder, file, item_at}
 use Rattle.world_api.specs.History.{Moment, History, Keeps, Passes}
 use Rattle.world_api.specs.Calls.{parent}
-use Rattle.world_api.specs.Writes.{dvc_path, tmp_path, lane_path, is_at, IsSameAt, IsSameUnder, IsNewFile, IsMade, HasRoom, IsFirmLane, in_begin, InBegin, InAppend, IsAppended, InSettle, IsSettled, IsMoved, in_publish, InPublish, IsPublished, in_scratch, InScratch, in_write, InWrite, IsNoScratch}
+use Rattle.world_api.specs.Layout.{dvc_path, tmp_path, lane_path}
+use Rattle.world_api.specs.Writes.{is_at, IsSameAt, IsSameUnder, IsNewFile, IsMade, HasRoom, IsFirmLane, in_begin, InBegin, InAppend, IsAppended, InSettle, IsSettled, IsMoved, in_publish, InPublish, IsPublished, in_scratch, InScratch, in_write, InWrite, IsNoScratch}
 use Rattle.world_api.proofs.HistoryLemmas.{keeps_itself, keeps_then, keeps_in, passes_weaker, passes_on}
 use Rattle.world_api.proofs.TreeLemmas.{under_parent, path_cases}
 use Rattle.world_api.proofs.LaneLemmas.{lane_in_tmp, dvc_above_lane, apart_scratch, apart_dvc, not_at}

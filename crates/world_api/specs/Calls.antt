@@ -5,7 +5,7 @@ use Rattle.dvc_base.specs.Path.{Path, under, overlap}
 use Rattle.dvc_base.specs.Join.{join}
 use Rattle.world_api.specs.Tree.{Tree, Item, folder, file, Value, item_at, value_at}
 use Rattle.world_api.specs.Effect.{Outcome, fails, gives, out_paths, invocation_of, is_in_any}
-use Rattle.world_api.specs.History.{Moment, Stays, itself, ran_too, KeepsPaths, Keeps}
+use Rattle.world_api.specs.History.{Moment, IsFirm, Stays, itself, ran_too, KeepsPaths, Keeps}
 use Rattle.world_api.specs.declared.files.Kind.{Kind}
 use Rattle.world_api.specs.declared.files.Kind.TheVariants.{Missing, File, Folder}
 use Rattle.world_api.specs.declared.job.Job.{Job}
@@ -34,7 +34,7 @@ ReadsFrom _ from old new count = ⊤
 -- after a clear: nothing stands at or below the path, and that is on the disk
 pub record IsCleared (at : Path) (n : Moment) : Type 0 where
   pub gone : (p : Path) → under at p ≡ true → item_at n.tree p ≡ None
-  pub settled : (p : Path) → under at p ≡ true → n.loose p ≡ false
+  pub settled : IsFirm at n
 
 -- during a clear: each path at or below is old or missing, and all else is as before
 pub record InClear (at : Path) (m n : Moment) : Type 0 where
@@ -74,15 +74,24 @@ abbrev pub Meets : Outcome → ℤ → List Value → Type 0
 Meets (fails code) exit values = (code ≢ pos 0) × (exit ≡ code)
 Meets (gives wanted) exit values = (exit ≡ pos 0) × (values ≡ wanted)
 
--- after a run: the job is among those that ran, and its outputs are the effect's
+-- the outputs may be lost in a stop
+abbrev pub HasLooseOuts : Job → Moment → Type 0
+HasLooseOuts job n = (p : Path) → is_in_any (out_paths job) p ≡ true → n.loose p ≡ true
+
+abbrev pub nowhere : Path → Bool
+nowhere p = false
+
+-- after a run: the job is among those that ran, and its outputs are loose, and the effect's
 pub record IsRun (job : Job) (exit : ℤ) (m n : Moment) : Type 0 where
   pub ran : Stays (ran_too job) m.aside n.aside
+  pub loose : HasLooseOuts job n
   pub outcome : IfSome m.aside.fixed.effect (λ effect.
       Meets (effect (invocation_of job m.tree)) exit (map (value_at n.tree) (out_paths job)))
 
--- during a run: the outputs hold anything, and all else is as before
+-- during a run: nothing was touched yet, or the outputs are loose and hold anything; all else is as before
 pub record InRun (job : Job) (m n : Moment) : Type 0 where
   pub others : KeepsPaths (is_in_any (out_paths job)) m n
+  pub outs : KeepsPaths nowhere m n ⊎ HasLooseOuts job n
   pub aside : Stays itself m.aside n.aside ⊎ Stays (ran_too job) m.aside n.aside
 
 -- bytes that were put: all of them after Ok, else a front of them

@@ -2,12 +2,12 @@
 --     Moment              the tree, which of its paths are loose, and what stands beside the tree
 --     Book                contents that were met, each under its digest
 --     Passes P old new    each moment from the old present to the new one has P
---     HasCause            an answer Failed comes only where the count rose
+--     IsCaused, HasCause  a failure is blamed on the world only where the count rose
 -- A stop at a moment leaves a tree that agrees with it at each path that isn't loose.
-use Rattle.std.specs.Prelude.{◌≡◌, ℕ, ◌+◌, ◌-◌, ◌^◌, ◌≤◌, min, Bool, false, List, [], ◌∷◌, ◌++◌, Option, Some, Result, OnErr}
+use Rattle.std.specs.Prelude.{◌≡◌, ◌⊎◌, ℕ, ◌+◌, ◌-◌, ◌^◌, ◌≤◌, min, Bool, true, false, List, [], ◌∷◌, ◌++◌, Option, Some, Result, IsErr}
 use Rattle.std.specs.List.{AllByRecursion}
 use Rattle.std.specs.Borrow.{GName}
-use Rattle.dvc_base.specs.Path.{Path}
+use Rattle.dvc_base.specs.Path.{Path, under}
 use Rattle.world_api.specs.Tree.{Tree, item_at}
 use Rattle.world_api.specs.Effect.{Effect}
 use Rattle.world_api.specs.declared.job.Job.{Job}
@@ -30,6 +30,14 @@ pub record Moment : Type 0 where
   pub tree : Tree
   pub loose : Path → Bool
   pub aside : Aside
+
+-- a stop may spoil what stands at or below the path
+abbrev pub IsLoose : Path → Moment → Type 0
+IsLoose q n = (p : Path) → under q p ≡ true → n.loose p ≡ true
+
+-- a stop leaves what stands at or below the path
+abbrev pub IsFirm : Path → Moment → Type 0
+IsFirm q n = (p : Path) → under q p ≡ true → n.loose p ≡ false
 
 -- the past has the newest moment first. `under` is the past of a world that this one looks through
 pub record History : Type 0 where
@@ -66,10 +74,12 @@ pub record Keeps (area : Path → Bool) (m n : Moment) : Type 0 where
   pub paths : KeepsPaths area m n
   pub aside : Stays itself m.aside n.aside
 
--- each moment from the old present on has P, the new present among them
+-- each moment from the old present on has P, the new present among them. Where anything has changed, the old present is
+-- the first of the moments since
 pub record Passes (P : Moment → Type 0) (old new : History) : Type 0 where
   pub since : List Moment
   pub grown : new.past ≡ since ++ old.past
+  pub start : (new ≡ old) ⊎ ((more : List Moment) × (since ≡ more ++ old.present ∷ []))
   pub each : AllByRecursion P since
   pub under : (more : List Moment) × (new.under ≡ more ++ old.under)
   pub now : P new.present
@@ -78,7 +88,11 @@ pub record Passes (P : Moment → Type 0) (old new : History) : Type 0 where
 abbrev pub Rose : ℕ → ℕ → Type 0
 Rose before now = min (before + 1) (2 ^ 64 - 1) ≤ now
 
-pub record HasCause {T E : Type 0} (before now : Faults) (result : Result T E) : Type 0 where
+-- the count never falls, and has risen where the world is blamed
+pub record IsCaused (before now : Faults) (blamed : Type 0) : Type 0 where
   pub same : now.origin ≡ before.origin
   pub later : before.count ≤ now.count
-  pub failed : OnErr result (Rose before.count now.count)
+  pub cause : blamed → Rose before.count now.count
+
+abbrev pub HasCause : {T E : Type 0} → Faults → Faults → Result T E → Type 0
+HasCause before now result = IsCaused before now (IsErr result)

@@ -4,26 +4,12 @@
 --     InScratch                                          while nothing has been published
 --     InWrite                                            while a file's bytes are put in place of what stood there
 -- A lane holds anything after a call on it that failed, so no clause speaks of it there.
-use Rattle.std.specs.Prelude.{◌≡◌, ◌≢◌, ◌⊎◌, ℕ, Bool, true, false, ◌&&◌, ◌||◌, List, [], ◌∷◌, ◌++◌, Some, None, codes}
-use Rattle.std.specs.Fmt.{decimal}
+use Rattle.std.specs.Prelude.{◌≡◌, ◌≢◌, ◌⊎◌, ℕ, Bool, true, false, ◌&&◌, ◌||◌, List, [], ◌++◌, Some, None}
 use Rattle.dvc_base.specs.Path.{Path, under}
 use Rattle.world_api.specs.Tree.{Tree, folder, file, item_at}
-use Rattle.world_api.specs.History.{Moment, Keeps}
+use Rattle.world_api.specs.History.{Moment, IsLoose, IsFirm, Keeps}
 use Rattle.world_api.specs.Calls.{IsFileAt, parent}
-
--- ---- paths
-
--- the folder of the tool's own files
-unfoldable pub dvc_path : Path
-dvc_path = codes ".dvc" ∷ []
-
--- the folder of the lanes
-unfoldable pub tmp_path : Path
-tmp_path = codes ".dvc" ∷ codes "tmp" ∷ []
-
--- the file of a lane
-unfoldable pub lane_path : ℕ → Path
-lane_path lane = codes ".dvc" ∷ codes "tmp" ∷ (codes "new-" ++ decimal lane) ∷ []
+pub use Rattle.world_api.specs.Layout.{dvc_path, tmp_path, lane_path}
 
 -- just the path q
 abbrev pub is_at : Path → Path → Bool
@@ -48,7 +34,7 @@ pub record IsNewFolder (q : Path) (n : Moment) : Type 0 where
 -- a file of these bytes that is on the disk whole
 pub record IsNewFile (q : Path) (bytes : List ℕ) (n : Moment) : Type 0 where
   pub stands : item_at n.tree q ≡ Some (file bytes)
-  pub firm : (p : Path) → under q p ≡ true → n.loose p ≡ false
+  pub firm : IsFirm q n
 
 -- as it was, or a folder where nothing stood
 abbrev pub IsMade : Path → Moment → Moment → Type 0
@@ -71,7 +57,7 @@ pub record HasRoom (at : Path) (t : Tree) : Type 0 where
 -- a lane that may be published
 pub record IsFirmLane (lane : ℕ) (m : Moment) : Type 0 where
   pub stands : IsFileAt m.tree (lane_path lane)
-  pub firm : (p : Path) → under (lane_path lane) p ≡ true → m.loose p ≡ false
+  pub firm : IsFirm (lane_path lane) m
 
 -- ---- the calls
 
@@ -85,19 +71,22 @@ pub record InBegin (lane : ℕ) (m n : Moment) : Type 0 where
 
 pub record IsBegun (lane : ℕ) (n : Moment) : Type 0 where
   pub empty : item_at n.tree (lane_path lane) ≡ Some (file [])
+  pub loose : IsLoose (lane_path lane) n
 
 pub record InAppend (lane : ℕ) (m n : Moment) : Type 0 where
   pub others : Keeps (under (lane_path lane)) m n
 
 pub record IsAppended (lane : ℕ) (bytes : List ℕ) (m n : Moment) : Type 0 where
-  pub grown : (old : List ℕ) → item_at m.tree (lane_path lane) ≡ Some (file old) → item_at n.tree (lane_path lane) ≡ Some (file (old ++ bytes))
+  pub grown : (old : List ℕ) → item_at m.tree (lane_path lane) ≡ Some (file old)
+      → item_at n.tree (lane_path lane) ≡ Some (file (old ++ bytes))
+  pub loose : IsLoose (lane_path lane) n
 
 pub record InSettle (lane : ℕ) (m n : Moment) : Type 0 where
   pub others : Keeps (under (lane_path lane)) m n
 
 pub record IsSettled (lane : ℕ) (m n : Moment) : Type 0 where
   pub same : item_at n.tree (lane_path lane) ≡ item_at m.tree (lane_path lane)
-  pub firm : (p : Path) → under (lane_path lane) p ≡ true → n.loose p ≡ false
+  pub firm : IsFirm (lane_path lane) n
 
 -- the lane's bytes stand at the path
 abbrev pub IsMoved : ℕ → Path → Moment → Moment → Type 0

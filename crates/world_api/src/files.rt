@@ -1,11 +1,12 @@
 // The files of the workspace, as the tool reads, clears and writes them.
 ghost use Rattle.std.specs.Prelude.{◌≡◌, ◌≢◌, ◌≤◌, false, [], length, IsTrue, IfOk, OnOk};
-ghost use Rattle.world_api.specs.Tree.{item_at, IsTree};
-ghost use Rattle.world_api.specs.History.{Moment, Passes, HasCause};
-ghost use Rattle.world_api.specs.Calls.{kind_of, IsFileAt, ReadsFrom, IsCleared, InClear};
-ghost use Rattle.world_api.specs.Writes.{dvc_path, lane_path, IsNoFileAt, HasRoom, IsFirmLane, InBegin, IsBegun, InAppend, IsAppended, InSettle, IsSettled, InPublish, IsPublished};
-ghost use Rattle.std.specs.List.{AllByRecursion};
 ghost use Rattle.dvc_base.specs.Path.{under};
+ghost use Rattle.world_api.specs.Tree.{item_at};
+ghost use Rattle.world_api.specs.History.{HasCause};
+ghost use Rattle.world_api.specs.Outside.{tree_of, IsUntouched, PassesFrom, HasTrees};
+ghost use Rattle.world_api.specs.Layout.{dvc_path, lane_path};
+ghost use Rattle.world_api.specs.Calls.{kind_of, IsFileAt, ReadsFrom, IsCleared, InClear};
+ghost use Rattle.world_api.specs.Writes.{IsNoFileAt, HasRoom, IsFirmLane, InBegin, IsBegun, InAppend, IsAppended, InSettle, IsSettled, InPublish, IsPublished};
 
 use crate::Ground;
 use dvc_base::{Failed, Rel};
@@ -19,72 +20,75 @@ pub enum Kind {
     Folder,
 }
 
-/// The files and folders below the repository's root. Nobody else writes there during a command.
-pub trait Files: Ground {
+/// What reads the files and folders below the repository's root, and changes nothing. Nobody else writes there during a
+/// command.
+pub trait ReadFiles: Ground {
     /// What stands at the path. It changes nothing.
     fn kind(&mut self, at: &Rel) -> Result<Kind, Failed>
         ensures told { IsTrue Self.tells → IfOk result (λ kind.
-            kind ≡ kind_of (item_at (Self.history self.old).present.tree at.now)) }
-        ensures unchanged { IsTrue Self.tells → Self.history self.new ≡ Self.history self.old }
+            kind ≡ kind_of (item_at (tree_of (Self.history self.old)) at.now)) }
+        ensures unchanged { IsUntouched Self.tells (Self.history self.old) (Self.history self.new) }
         ensures cause { HasCause (Self.faults self.old) (Self.faults self.new) result };
 
     /// Puts bytes of the file, from an offset on, at the front of the buffer, and answers how many: none
     /// only at or past the end, or where the buffer is empty. It changes nothing.
     fn read_at(&mut self, at: &Rel, from: u64, into: &mut [u8]) -> Result<usize, Failed>
-        requires { IsTrue Self.tells → IsFileAt (Self.history self.old).present.tree at.now }
+        requires { IsTrue Self.tells → IsFileAt (tree_of (Self.history self.old)) at.now }
         ensures within { IfOk result (λ count. count ≤ length into.old) }
         ensures read { IsTrue Self.tells → IfOk result (λ count.
-            ReadsFrom (item_at (Self.history self.old).present.tree at.now) from into.old into.new count) }
-        ensures unchanged { IsTrue Self.tells → Self.history self.new ≡ Self.history self.old }
+            ReadsFrom (item_at (tree_of (Self.history self.old)) at.now) from into.old into.new count) }
+        ensures unchanged { IsUntouched Self.tells (Self.history self.old) (Self.history self.new) }
         ensures cause { HasCause (Self.faults self.old) (Self.faults self.new) result };
 
+    /// At each moment that is told, the parent of each member is a folder.
+    ghost stands: { (world : Self) → IsTrue Self.tells → HasTrees (Self.history world) };
+}
+
+/// What writes there too.
+pub trait Files: ReadFiles {
     /// Removes what stands at the path, with all below it.
     fn clear(&mut self, at: &Rel) -> Result<(), Failed>
         requires { at.now ≢ [] }
         ensures cleared { IsTrue Self.tells → OnOk result (IsCleared at.now (Self.history self.new).present) }
         ensures moments { IsTrue Self.tells →
-            Passes (InClear at.now (Self.history self.old).present) (Self.history self.old) (Self.history self.new) }
+            PassesFrom (InClear at.now) (Self.history self.old) (Self.history self.new) }
         ensures cause { HasCause (Self.faults self.old) (Self.faults self.new) result };
 
-    /// Makes the lane an empty file, in place of what stands there. It makes the folders above it where they are
-    /// missing; a file in place of the lower one gives way.
+    /// Makes the lane an empty file, in place of what stands there, which may be lost in a stop. It makes the folders
+    /// above it where they are missing; a file in place of the lower one gives way.
     fn begin(&mut self, lane: u32) -> Result<(), Failed>
-        requires { IsTrue Self.tells → IsNoFileAt (Self.history self.old).present.tree dvc_path }
+        requires { IsTrue Self.tells → IsNoFileAt (tree_of (Self.history self.old)) dvc_path }
         ensures begun { IsTrue Self.tells → OnOk result (IsBegun lane (Self.history self.new).present) }
         ensures moments { IsTrue Self.tells →
-            Passes (InBegin lane (Self.history self.old).present) (Self.history self.old) (Self.history self.new) }
+            PassesFrom (InBegin lane) (Self.history self.old) (Self.history self.new) }
         ensures cause { HasCause (Self.faults self.old) (Self.faults self.new) result };
 
     /// Puts the bytes at the end of the lane. They may be lost in a stop.
     fn append(&mut self, lane: u32, bytes: &[u8]) -> Result<(), Failed>
-        requires { IsTrue Self.tells → IsFileAt (Self.history self.old).present.tree (lane_path lane) }
+        requires { IsTrue Self.tells → IsFileAt (tree_of (Self.history self.old)) (lane_path lane) }
         ensures appended { IsTrue Self.tells → OnOk result
             (IsAppended lane bytes.now (Self.history self.old).present (Self.history self.new).present) }
         ensures moments { IsTrue Self.tells →
-            Passes (InAppend lane (Self.history self.old).present) (Self.history self.old) (Self.history self.new) }
+            PassesFrom (InAppend lane) (Self.history self.old) (Self.history self.new) }
         ensures cause { HasCause (Self.faults self.old) (Self.faults self.new) result };
 
     /// Puts the lane on the disk, so that a stop leaves it whole.
     fn settle(&mut self, lane: u32) -> Result<(), Failed>
-        requires { IsTrue Self.tells → IsFileAt (Self.history self.old).present.tree (lane_path lane) }
+        requires { IsTrue Self.tells → IsFileAt (tree_of (Self.history self.old)) (lane_path lane) }
         ensures settled { IsTrue Self.tells → OnOk result
             (IsSettled lane (Self.history self.old).present (Self.history self.new).present) }
         ensures moments { IsTrue Self.tells →
-            Passes (InSettle lane (Self.history self.old).present) (Self.history self.old) (Self.history self.new) }
+            PassesFrom (InSettle lane) (Self.history self.old) (Self.history self.new) }
         ensures cause { HasCause (Self.faults self.old) (Self.faults self.new) result };
 
     /// Moves a settled lane to the path, in place of a file there. The path is old or new at each moment, and never missing.
     fn publish(&mut self, lane: u32, at: &Rel) -> Result<(), Failed>
         requires apart { under (lane_path lane) at.now ≡ false }
         requires settled { IsTrue Self.tells → IsFirmLane lane (Self.history self.old).present }
-        requires room { IsTrue Self.tells → HasRoom at.now (Self.history self.old).present.tree }
+        requires room { IsTrue Self.tells → HasRoom at.now (tree_of (Self.history self.old)) }
         ensures published { IsTrue Self.tells → OnOk result
             (IsPublished lane at.now (Self.history self.old).present (Self.history self.new).present) }
         ensures moments { IsTrue Self.tells →
-            Passes (InPublish lane at.now (Self.history self.old).present) (Self.history self.old) (Self.history self.new) }
+            PassesFrom (InPublish lane at.now) (Self.history self.old) (Self.history self.new) }
         ensures cause { HasCause (Self.faults self.old) (Self.faults self.new) result };
-
-    /// At each moment that is told, the parent of each member is a folder.
-    ghost stands: { (world : Self) → IsTrue Self.tells →
-        IsTree (Self.history world).present.tree × AllByRecursion (λ (m : Moment). IsTree m.tree) (Self.history world).past };
 }

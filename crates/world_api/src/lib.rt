@@ -6,13 +6,13 @@
 mod files;
 mod ground;
 mod job;
-mod lane;
+mod layout;
 mod shell;
 mod sink;
 
-pub use files::{Files, Kind};
+pub use files::{Files, Kind, ReadFiles};
 pub use ground::Ground;
 pub use job::{Exit, Job};
-pub use lane::{dvc_path, lane_path, tmp_path};
+pub use layout::{dvc_path, lane_path, lock_path, tmp_path, yaml_path};
 pub use shell::{Shell, World};
 pub use sink::Sink;

@@ -8,7 +8,7 @@ use std::alloc::Global;
 use yaml_profile::{YamlFault, parse, print};
 
 /// The text that the node of a text is printed as, which is read as the same node; or the fault of the text, with its line.
-pub fn printed(alloc: Global, text: &[u8]) -> Result<Bytes, YamlFault>
+pub fn print_again(alloc: Global, text: &[u8]) -> Result<Bytes, YamlFault>
     requires few { count_by (λ b. b == 10) text.now + 1 < 2 ^ 32 }
     ensures printed { IfOk result (IsPrinted text.now) }
     ensures same { IfOk result (λ bytes. reading.parse bytes ≡ reading.parse text.now) }

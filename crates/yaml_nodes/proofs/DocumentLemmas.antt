@@ -6,7 +6,7 @@ use Rattle.std.specs.Str.Lossy.{utf8_valid_len}
 use Rattle.std.proofs.lemmas.List.Recursion.{is_count_by}
 use Rattle.std.proofs.lemmas.List.Sums.{count_by-le-length}
 use Rattle.yaml_text.specs.Outcome.{Text}
-use Rattle.yaml_text.specs.Source.{valid_part, past_mark, with_line_feeds, source}
+use Rattle.yaml_text.specs.Source.{with_stop, past_mark, with_line_feeds, source}
 
 -- how many line feeds a text has, by its first byte
 abbrev count : Text → ℕ
@@ -37,10 +37,10 @@ drop_le zero t = omega arith
 drop_le (suc n) [] = omega arith
 drop_le (suc n) (b ∷ t) = less_le (eqb b 10) (count (drop n t)) (count t) (drop_le n t)
 
-front_le : (n : ℕ) (t : Text) → count (take n t ++ 0 ∷ []) ≤ count t
-front_le zero t = omega arith
-front_le (suc n) [] = omega arith
-front_le (suc n) (b ∷ t) = more_le (eqb b 10) (count (take n t ++ 0 ∷ [])) (count t) (front_le n t)
+stop_le : (n : ℕ) (t : Text) → count (take n t ++ 0 ∷ drop n t) ≤ count t
+stop_le zero t = omega arith
+stop_le (suc n) [] = omega arith
+stop_le (suc n) (b ∷ t) = more_le (eqb b 10) (count (take n t ++ 0 ∷ drop n t)) (count t) (stop_le n t)
 
 take_le : (n : ℕ) (t : Text) → count (take n t) ≤ count t
 take_le zero t = omega arith
@@ -51,8 +51,9 @@ choice_le : (c : Bool) (x y : Text) (n : ℕ) → count x ≤ n → count y ≤ 
 choice_le true x y n h k = h
 choice_le false x y n h k = k
 
-valid_le : (t : Text) → count (valid_part t) ≤ count t
-valid_le t = choice_le (is_utf8 t) t (take (utf8_valid_len t) t ++ 0 ∷ []) (count t) (omega arith) (front_le (utf8_valid_len t) t)
+with_stop_le : (t : Text) → count (with_stop t) ≤ count t
+with_stop_le t =
+    choice_le (is_utf8 t) t (take (utf8_valid_len t) t ++ 0 ∷ drop (utf8_valid_len t) t) (count t) (omega arith) (stop_le (utf8_valid_len t) t)
 
 mark_le : (t : Text) → count (past_mark t) ≤ count t
 mark_le t = choice_le (eqb (slice_index t 0) 239 && eqb (slice_index t 1) 187 && eqb (slice_index t 2) 191) (drop 3 t) t (count t) (drop_le 3 t) (omega arith)
@@ -63,10 +64,10 @@ take_lines n t = omega (arith, take_le n t, counted t, counted (take n t))
 pub source_lines : (bytes : Text) → count_by (λ b. eqb b 10) (source bytes) ≤ count_by (λ b. eqb b 10) bytes
 unfolding source
 source_lines bytes =
-    let a = feeds_le (past_mark (valid_part bytes)) in
-    let b = mark_le (valid_part bytes) in
-    let c = valid_le bytes in
-    omega (arith, counted bytes, counted (with_line_feeds (past_mark (valid_part bytes))))
+    let a = feeds_le (past_mark (with_stop bytes)) in
+    let b = mark_le (with_stop bytes) in
+    let c = with_stop_le bytes in
+    omega (arith, counted bytes, counted (with_line_feeds (past_mark (with_stop bytes))))
 
 pub lines_le : (t : Text) → count_by (λ b. eqb b 10) t ≤ length t
 lines_le t = count_by-le-length (λ b. eqb b 10) t

@@ -70,7 +70,8 @@ new_sound (g.new_key m h) = cc
 pub flow_key_sound : {t : Text} {o : Step Text} → g.IsFlowKey t o → flow_key t ≡ o
 unfolding flow_key
 flow_key_sound (g.IsFlowKey.key_in_quotes {t = t} {o = o} q) = let h = quote_of q in let e = quoted_sound true t o q in cc
-flow_key_sound (g.IsFlowKey.plain_key {t = t} b) = let h = plain_no_quote true t b in cc
+flow_key_sound (g.IsFlowKey.plain_key {t = t} b c) = let h = plain_no_quote true t b in cc
+flow_key_sound (g.IsFlowKey.bad_character {t = t} b c) = let h = plain_no_quote true t b in cc
 flow_key_sound (g.IsFlowKey.no_key q b) = cc
 
 pub key_sound : {t : Text} {o : Step Text} → g.IsKey t o → block_key t ≡ o

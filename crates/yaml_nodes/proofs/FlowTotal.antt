@@ -18,7 +18,7 @@ use Rattle.yaml_scalars.specs.Rules.{IsQuoted, IsPlain}
 use Rattle.yaml_scalars.proofs.QuotedRules.{quoted_total}
 use Rattle.yaml_scalars.proofs.PlainRules.{plain_total}
 use Rattle.yaml_nodes.specs.Part.{first, is_quote, opens, too_deep, is_on_one_line, has_key, with_pair}
-use Rattle.yaml_nodes.specs.Flow.{is_pair, is_merge, is_key_colon}
+use Rattle.yaml_nodes.specs.Flow.{is_pair, begins_bad, behind_plain_key, is_merge, is_key_colon}
 use Rattle.yaml_nodes.specs.Block.{behind_plain}
 use Rattle.yaml_nodes.specs.Grammar as g
 use Rattle.yaml_nodes.proofs.FlowSoundness.{or_eqb, gap, new_sound, flow_key_sound, flow_sound, flow_value_sound, item_left, one_item, pair_left, one_pair}
@@ -53,7 +53,10 @@ flow_key_total t =
     elim (cases_Bool (is_quote t)) [
       | inl q ↦ let k = quotes_total true t q in (k.0, g.IsFlowKey.key_in_quotes k.1)
       | inr q ↦ elim (cases_Bool (begins_plain true t)) [
-        | inl b ↦ (Ok (take (plain_len true false t) t, drop (plain_len true false t) t), g.IsFlowKey.plain_key b)
+        | inl b ↦ elim (cases_Bool (begins_bad (behind_plain_key t))) [
+          | inl c ↦ (syntax (behind_plain_key t), g.IsFlowKey.bad_character b c)
+          | inr c ↦ (Ok (take (plain_len true false t) t, drop (plain_len true false t) t), g.IsFlowKey.plain_key b c)
+        ]
         | inr b ↦ (syntax t, g.IsFlowKey.no_key q b)
       ]
     ]

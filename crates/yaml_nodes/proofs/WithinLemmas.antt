@@ -16,7 +16,7 @@ use Rattle.yaml_scalars.specs.Lines.{lines}
 use Rattle.yaml_scalars.specs.Kind.{scalar}
 use Rattle.yaml_scalars.proofs.WithinLemmas.{TurnLeaves, StepLeaves, quoted_within, plain_within, lines_within}
 use Rattle.yaml_nodes.specs.Part.{steps_within, steps, first, is_quote, opens, too_deep, plain_node, quoted_node, with_pair}
-use Rattle.yaml_nodes.specs.Flow.{parts_from, between_parts, flow_scalar, is_pair, behind_item, item_at, item_turn, items, flow_key, new_key, is_key_colon, value_at, flow_value, behind_pair, with_key, pair_at, pair_turn, pairs, flow_form, flow_node}
+use Rattle.yaml_nodes.specs.Flow.{parts_from, between_parts, flow_scalar, is_pair, behind_item, item_at, item_turn, items, begins_bad, behind_plain_key, plain_key, flow_key, new_key, is_key_colon, value_at, flow_value, behind_pair, with_key, pair_at, pair_turn, pairs, flow_form, flow_node}
 use Rattle.yaml_nodes.specs.Block.{line_end, lines_node, inline, begins_item, behind_plain, begins_key, item_below, item, next_item, with_found, sequence_turn, sequence, behind_key, block_key, value_below, value, next_pair, with_value, mapping_turn, mapping, block}
 
 -- what a turn leaves is less than n
@@ -126,14 +126,18 @@ unfolding item_turn
 item_less node each n found t h =
     then_ok (λ (u : Text). length u ≤ n) (λ (r : Turn (List Node)). length r.1.1 < n) (between_parts t) (item_at node found) (gap_within n t h) (item_at_less node each n found)
 
+plain_key_within : (n : ℕ) (t : Text) → length t ≤ n → StepLeaves n (plain_key t)
+plain_key_within n t h =
+    chosen_ok (λ (r : Text × Text). length r.1 ≤ n) (begins_bad (behind_plain_key t)) (syntax (behind_plain_key t))
+    (Ok (take (plain_len true false t) t, drop (plain_len true false t) t)) tt (omega (arith, drop_le (plain_len true false t) t))
+
 flow_key_within : (n : ℕ) (t : Text) → length t ≤ n → StepLeaves n (flow_key t)
 unfolding flow_key
 flow_key_within n t h =
     chosen_ok (λ (r : Text × Text). length r.1 ≤ n) (is_quote t) (quoted (first t) true (drop 1 t))
-    (cond (begins_plain true t) (Ok (take (plain_len true false t) t, drop (plain_len true false t) t)) (syntax t))
+    (cond (begins_plain true t) (plain_key t) (syntax t))
     (quoted_within (first t) true n (drop 1 t) (omega (arith, drop_le 1 t)))
-    (chosen_ok (λ (r : Text × Text). length r.1 ≤ n) (begins_plain true t) (Ok (take (plain_len true false t) t, drop (plain_len true false t) t)) (syntax t)
-    (omega (arith, drop_le (plain_len true false t) t)) tt)
+    (chosen_ok (λ (r : Text × Text). length r.1 ≤ n) (begins_plain true t) (plain_key t) (syntax t) (plain_key_within n t h) tt)
 
 value_at_within : (node : Text → Step Node) → Keeps node → (n : ℕ) (t : Text) → length t ≤ n → StepLeaves n (value_at node t)
 value_at_within node each n t h =

@@ -7,7 +7,7 @@ use Rattle.dvc_base.specs.declared.node.Node.TheVariants as nd
 use Rattle.dvc_base.specs.declared.node.Pair.{Pair}
 use Rattle.yaml_text.specs.declared.refusal.Refusal.TheVariants.{Duplicate}
 use Rattle.yaml_text.specs.Outcome.{Text, Outcome, Step, ◌>>=◌, syntax}
-use Rattle.yaml_text.specs.Line.{is_white, is_bad, is_marker}
+use Rattle.yaml_text.specs.Line.{is_white, is_bad, past_white, is_marker}
 use Rattle.yaml_scalars.specs.Turns.{Turn}
 use Rattle.yaml_scalars.specs.Plain.{is_colon, begins_plain, plain_len}
 use Rattle.yaml_scalars.specs.Quoted.{quoted}
@@ -62,11 +62,25 @@ items node t = steps (item_turn node) [] t >>= λ r. Ok (nd.Items r.0, r.1)
 
 -- ---- pairs
 
--- a plain key stays on one line
+-- a character that no text may have
+abbrev pub begins_bad : Text → Bool
+begins_bad [] = false
+begins_bad (b ∷ t) = is_bad b
+
+-- the text behind a plain key and white space
+abbrev pub behind_plain_key : Text → Text
+behind_plain_key t = past_white (drop (plain_len true false t) t)
+
+-- a plain key stays on one line, and ends at no bad character
+abbrev pub plain_key : Text → Step Text
+plain_key t =
+    if begins_bad (behind_plain_key t) then syntax (behind_plain_key t)
+    else Ok (take (plain_len true false t) t, drop (plain_len true false t) t)
+
 unfoldable pub flow_key : Text → Step Text
 flow_key t =
     if is_quote t then quoted (first t) true (drop 1 t)
-    else if begins_plain true t then Ok (take (plain_len true false t) t, drop (plain_len true false t) t)
+    else if begins_plain true t then plain_key t
     else syntax t
 
 abbrev pub is_merge : Text → Text → Bool

@@ -23,7 +23,7 @@ use Rattle.yaml_scalars.specs.Plain.{is_colon, begins_plain, plain_len}
 use Rattle.yaml_scalars.specs.Kind.{scalar}
 use Rattle.yaml_scalars.specs.Rules.{IsQuoted, IsPlain, IsLines}
 use Rattle.yaml_nodes.specs.Part.{first, is_quote, opens, too_deep, is_on_one_line, has_key, with_pair}
-use Rattle.yaml_nodes.specs.Flow.{is_pair, is_merge, is_key_colon}
+use Rattle.yaml_nodes.specs.Flow.{is_pair, begins_bad, behind_plain_key, is_merge, is_key_colon}
 use Rattle.yaml_nodes.specs.Block.{begins_item, behind_plain}
 
 -- ---- scalars
@@ -53,7 +53,12 @@ pub data IsNew : List Pair → Text → Text → Outcome Text → Type 0 where
 -- a key in a flow mapping; a plain one stays on one line (7.4.2)
 pub data IsFlowKey : Text → Step Text → Type 0 where
   key_in_quotes : {t : Text} {o : Step Text} → IsQuoted true t o → IsFlowKey t o
-  plain_key : {t : Text} → begins_plain true t ≡ true → IsFlowKey t (Ok (take (plain_len true false t) t, drop (plain_len true false t) t))
+  plain_key : {t : Text}
+      → begins_plain true t ≡ true → begins_bad (behind_plain_key t) ≡ false
+      → IsFlowKey t (Ok (take (plain_len true false t) t, drop (plain_len true false t) t))
+  -- no key ends at a character that no text may have
+  bad_character : {t : Text}
+      → begins_plain true t ≡ true → begins_bad (behind_plain_key t) ≡ true → IsFlowKey t (syntax (behind_plain_key t))
   no_key : {t : Text} → is_quote t ≡ false → begins_plain true t ≡ false → IsFlowKey t (syntax t)
 
 -- a key in a block mapping, on one line, and the text behind its `:` (8.2.2)

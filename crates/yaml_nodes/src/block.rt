@@ -1,6 +1,6 @@
 // Nodes of block style.
-ghost use Rattle.std.specs.Prelude.{◌≡◌, ◌<◌, ◌≤◌, ◌+◌, ◌^◌, ◌++◌, [], ◌∷◌, false, length, IfOk};
-ghost use Rattle.yaml_text.specs.Outcome.{Reads};
+ghost use Rattle.std.specs.Prelude.{◌≡◌, ◌<◌, ◌≤◌, ◌+◌, ◌^◌, ◌++◌, [], ◌∷◌, false, length, IfOk, IfErr};
+ghost use Rattle.yaml_text.specs.Outcome.{IsRefused, Reads};
 ghost use Rattle.yaml_text.specs.Line as lines;
 ghost use Rattle.yaml_scalars.specs.Plain as plain;
 ghost use Rattle.yaml_nodes.specs.Block as spec;
@@ -20,6 +20,7 @@ use yaml_text::{
 fn line_end(node: Node, rest: &[u8]) -> Result<(Node, &[u8]), Stop>
     ensures exact { Reads (λ r. (r.0, r.1.now)) result (spec.line_end (node, rest.now)) }
     ensures within { IfOk result (λ r. length r.1.now ≤ length rest.now) }
+    ensures refused { IfErr result IsRefused }
 {
     let below = rest_of_line(false, rest)?;
     Ok((node, next_line(below)?))
@@ -93,6 +94,7 @@ fn behind_key(is_end: bool, key: Text, text: &[u8]) -> Result<(Text, &[u8]), Sto
     ensures exact { Reads (λ r. (r.0, r.1.now)) result (spec.behind_key is_end key text.now) }
     ensures within { IfOk result (λ r. length r.1.now ≤ length text.now) }
     ensures shorter { IfOk result (λ r. 0 < length text.now → length r.1.now < length text.now) }
+    ensures refused { IfErr result IsRefused }
 {
     if is_end {
         Ok((key, behind(text, 1)))

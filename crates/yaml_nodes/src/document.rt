@@ -1,6 +1,6 @@
 // The document, and the whole text.
-ghost use Rattle.std.specs.Prelude.{◌≡◌, ◌<◌, ◌≤◌, ◌+◌, ◌^◌, ◌==◌, Ok, Err, length, count_by, IfOk};
-ghost use Rattle.yaml_text.specs.Outcome.{Reads};
+ghost use Rattle.std.specs.Prelude.{◌≡◌, ◌<◌, ◌≤◌, ◌+◌, ◌^◌, ◌==◌, Ok, Err, length, count_by, IfOk, IfErr};
+ghost use Rattle.yaml_text.specs.Outcome.{IsRefused, Reads};
 ghost use Rattle.yaml_nodes.specs.Document as spec;
 ghost use Rattle.yaml_nodes.specs.DocumentGrammar.{IsParsed};
 
@@ -33,6 +33,7 @@ fn root(alloc: Global, text: &[u8]) -> Result<Node, Stop>
 fn past_marker(text: &[u8]) -> Result<&[u8], Stop>
     ensures exact { Reads (λ rest. rest.now) result (spec.past_marker text.now) }
     ensures within { IfOk result (λ rest. length rest.now ≤ length text.now) }
+    ensures refused { IfErr result IsRefused }
 {
     if is_marker(text) {
         let below = rest_of_line(false, behind(text, 3))?;
@@ -57,6 +58,7 @@ fn document(alloc: Global, text: &[u8]) -> Result<Node, Stop>
 #[tactic(auto, unfolding(crate::specs::Document::tail))]
 fn tail(text: &[u8]) -> Result<&[u8], Stop>
     ensures exact { Reads (λ rest. rest.now) result (spec.tail text.now) }
+    ensures refused { IfErr result IsRefused }
 {
     if text.len() == 0 {
         return Ok(text);
@@ -100,7 +102,7 @@ fn located(text: &[u8], body: &[u8], why: Refusal) -> YamlFault
 
 fn with_tail(text: &[u8], node: Node, rest: &[u8]) -> Result<Node, YamlFault>
     requires { count_by (λ b. b == 10) text.now + 1 < 2 ^ 32 }
-    ensures { spec.IsAnswer result (spec.with_tail text.now node (spec.tail rest.now)) }
+    ensures { result ≡ spec.with_tail text.now node (spec.tail rest.now) }
 {
     match tail(rest) {
         Ok(_) => Ok(node),

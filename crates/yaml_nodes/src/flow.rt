@@ -1,6 +1,6 @@
 // Flow forms.
-ghost use Rattle.std.specs.Prelude.{◌≡◌, ◌<◌, ◌≤◌, ◌++◌, [], ◌∷◌, false, length, IfOk};
-ghost use Rattle.yaml_text.specs.Outcome.{Reads};
+ghost use Rattle.std.specs.Prelude.{◌≡◌, ◌<◌, ◌≤◌, ◌++◌, [], ◌∷◌, false, length, IfOk, IfErr};
+ghost use Rattle.yaml_text.specs.Outcome.{IsRefused, Reads};
 ghost use Rattle.yaml_nodes.specs.Flow as spec;
 ghost use Rattle.yaml_nodes.specs.Part as parts;
 
@@ -9,13 +9,16 @@ use crate::part::{is_on_one_line, is_quote, opens, plain_node, quoted_node, too_
 use dvc_base::{Node, Nodes, Text};
 use std::alloc::Global;
 use yaml_scalars::{begins_plain, is_colon, plain_len, quoted_scalar};
-use yaml_text::{Refusal, Stop, behind, byte, is_bad, is_marker, is_white, syntax, text_of};
+use yaml_text::{
+    Refusal, Stop, behind, byte, is_bad, is_marker, is_white, past_white, syntax, text_of,
+};
 
 /// The text from the next part on: white space, line breaks and comments may stand before it.
 #[tactic(auto, unfolding(crate::specs::Flow::between_parts))]
 fn between_parts(mut text: &[u8]) -> Result<&[u8], Stop>
     ensures exact { Reads (λ rest. rest.now) result (spec.between_parts text.entry.now) }
     ensures within { IfOk result (λ rest. length rest.now ≤ length text.entry.now) }
+    ensures refused { IfErr result IsRefused }
 {
     let mut may = false;
     let mut inside = false;
@@ -24,20 +27,17 @@ fn between_parts(mut text: &[u8]) -> Result<&[u8], Stop>
             if is_marker(rest) {
                 return Err(syntax(rest));
             }
-            may = true;
             inside = false;
         } else if inside {
             if is_bad(*first) {
                 return Err(syntax(text));
             }
-            may = true;
-        } else if is_white(*first) {
-            may = true;
         } else if may && *first == b'#' {
             inside = true;
-        } else {
+        } else if !is_white(*first) {
             return Ok(text);
         }
+        may = true;
         text = rest;
     }
     Ok(text)
@@ -153,10 +153,31 @@ fn flow_key(alloc: Global, text: &[u8]) -> Result<(Text, &[u8]), Stop>
     if is_quote(text) {
         quoted_scalar(alloc, byte(text, 0), true, behind(text, 1))
     } else if begins_plain(true, text) {
-        let (key, rest) = text.split_at(plain_len(true, text));
-        Ok((text_of(alloc, key)?, rest))
+        plain_key(alloc, text)
     } else {
         Err(syntax(text))
+    }
+}
+
+/// The plain key that begins here, which ends at no bad character.
+fn plain_key(alloc: Global, text: &[u8]) -> Result<(Text, &[u8]), Stop>
+    ensures exact { Reads (λ r. (r.0, r.1.now)) result (spec.plain_key text.now) }
+    ensures within { IfOk result (λ r. length r.1.now ≤ length text.now) }
+{
+    let (key, rest) = text.split_at(plain_len(true, text));
+    let next = past_white(rest);
+    if begins_bad(next) {
+        return Err(syntax(next));
+    }
+    Ok((text_of(alloc, key)?, rest))
+}
+
+fn begins_bad(text: &[u8]) -> bool
+    ensures { result ≡ spec.begins_bad text.now }
+{
+    match text {
+        [] => false,
+        [first, ..] => is_bad(*first),
     }
 }
 
@@ -170,6 +191,7 @@ fn is_merge(text: &[u8], key: &Text) -> bool
 #[tactic(auto, unfolding(crate::specs::Flow::new_key))]
 pub fn new_key(found: &Pairing, text: &[u8], key: Text) -> Result<Text, Stop>
     ensures exact { Reads (λ key. key) result (spec.new_key found.now text.now key) }
+    ensures refused { IfErr result IsRefused }
 {
     if is_merge(text, &key) {
         Err(syntax(text))

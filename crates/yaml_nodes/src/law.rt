@@ -10,6 +10,9 @@ ghost use Rattle.yaml_nodes.specs.DocumentGrammar as grammar;
 pub fn grammar_law()
     ensures some { (bytes : Text) → (o : Result Node YamlFault) × grammar.IsYaml bytes o }
     ensures one { (bytes : Text) (o p : Result Node YamlFault) → grammar.IsYaml bytes o → grammar.IsYaml bytes p → o ≡ p }
-    ensures sound { (text : Text) (o : Outcome Node) → grammar.IsDocument text o → reading.document text ≡ o }
-    ensures complete { (text : Text) → grammar.IsDocument text (reading.document text) }
+    ensures sound { (bytes : Text) (o : Result Node YamlFault) → grammar.IsYaml bytes o → reading.parse bytes ≡ o }
+    ensures complete { (bytes : Text) → grammar.IsYaml bytes (reading.parse bytes) }
+    // the same of the document alone
+    ensures document_sound { (text : Text) (o : Outcome Node) → grammar.IsDocument text o → reading.document text ≡ o }
+    ensures document_complete { (text : Text) → grammar.IsDocument text (reading.document text) }
 {}

@@ -85,7 +85,8 @@ fn add(
     ensures ok { OnOk result (pairs.new ≡ spec.with_pair pairs.old key value) }
     ensures holds { OnOk result (HasKeys keys.new pairs.new) }
 {
+    let pair = Pair { key, value };
     keys.insert(copy)?;
-    pairs.push(Pair { key, value })?;
+    pairs.push(pair)?;
     Ok(())
 }

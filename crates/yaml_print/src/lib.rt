@@ -2,8 +2,6 @@
 #![tactic(auto)]
 
 mod node;
-#[cfg(test)]
-mod tests;
 mod written;
 
 pub use node::print;

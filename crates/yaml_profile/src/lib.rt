@@ -2,12 +2,6 @@
 #![tactic(auto)]
 
 mod reading;
-#[cfg(test)]
-mod reads;
-#[cfg(test)]
-mod table;
-#[cfg(test)]
-mod tests;
 
 pub use dvc_base::{Node, Nodes, Pair, PairList, YamlFault};
 pub use reading::parse;

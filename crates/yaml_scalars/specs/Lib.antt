@@ -6,3 +6,4 @@ pub mod Number
 pub mod Seen
 pub mod Kind
 pub mod Rules
+pub mod Cases

@@ -1,8 +1,8 @@
 // What a plain scalar stands for.
-ghost use Rattle.std.specs.Prelude.{◌≡◌, ◌≤◌, true, false, length, drop, bytes_eq, option_map};
+ghost use Rattle.std.specs.Prelude.{◌≡◌, ◌≤◌, true, false, length, drop, bytes_eq, option_map, IfErr};
 ghost use Rattle.std.specs.Char.{is_ascii_hexdigit};
 ghost use Rattle.std.specs.List.{list_all};
-ghost use Rattle.yaml_text.specs.Outcome.{Reads};
+ghost use Rattle.yaml_text.specs.Outcome.{IsRefused, Reads};
 ghost use Rattle.yaml_scalars.specs.Kind as spec;
 ghost use Rattle.yaml_scalars.specs.Number as numbers;
 
@@ -94,7 +94,8 @@ fn signed(below: bool, size: u128) -> i128
 }
 
 fn whole(left: usize, text: Text, below: bool, size: u128) -> Result<Node, Stop>
-    ensures { Reads (λ node. node) result (spec.whole left text below size) }
+    ensures exact { Reads (λ node. node) result (spec.whole left text below size) }
+    ensures refused { IfErr result IsRefused }
 {
     if fits_whole(below, size) {
         Ok(Node::Whole {
@@ -109,7 +110,8 @@ fn whole(left: usize, text: Text, below: bool, size: u128) -> Result<Node, Stop>
 /// A whole number of digits alone, whose size stands for itself only up to 2^128 - 1.
 #[tactic(auto, using(crate::proofs::KindLemmas::whole_cut))]
 fn decimal_whole(left: usize, text: Text) -> Result<Node, Stop>
-    ensures { Reads (λ node. node) result (spec.whole left text (numbers.is_negative text) (numbers.number 10 (numbers.past_sign text))) }
+    ensures exact { Reads (λ node. node) result (spec.whole left text (numbers.is_negative text) (numbers.number 10 (numbers.past_sign text))) }
+    ensures refused { IfErr result IsRefused }
 {
     let bytes = text.as_str().as_bytes();
     let size = number(10, past_sign(bytes));
@@ -120,14 +122,16 @@ fn decimal_whole(left: usize, text: Text) -> Result<Node, Stop>
 #[tactic(auto, using(crate::proofs::KindLemmas::whole_cut))]
 fn based_whole(left: usize, text: Text, base: u8) -> Result<Node, Stop>
     requires { 1 ≤ base }
-    ensures { Reads (λ node. node) result (spec.whole left text false (numbers.number base (drop 2 text))) }
+    ensures exact { Reads (λ node. node) result (spec.whole left text false (numbers.number base (drop 2 text))) }
+    ensures refused { IfErr result IsRefused }
 {
     let size = number(base, behind(text.as_str().as_bytes(), 2));
     whole(left, text, false, size)
 }
 
 fn decimal(left: usize, text: Text) -> Result<Node, Stop>
-    ensures { Reads (λ node. node) result (spec.decimal left text (option_map numbers.is_wide (numbers.parts_of text))) }
+    ensures exact { Reads (λ node. node) result (spec.decimal left text (option_map numbers.is_wide (numbers.parts_of text))) }
+    ensures refused { IfErr result IsRefused }
 {
     // Whether it is too wide, where it is a number with a point or an exponent.
     let wide = parts_of(text.as_str().as_bytes()).map(|numeral| is_wide(&numeral));
@@ -139,7 +143,8 @@ fn decimal(left: usize, text: Text) -> Result<Node, Stop>
 }
 
 fn numeral(left: usize, text: Text) -> Result<Node, Stop>
-    ensures { Reads (λ node. node) result (spec.numeral left text) }
+    ensures exact { Reads (λ node. node) result (spec.numeral left text) }
+    ensures refused { IfErr result IsRefused }
 {
     let bytes = text.as_str().as_bytes();
     if are_digits(past_sign(bytes)) {
@@ -157,6 +162,7 @@ fn numeral(left: usize, text: Text) -> Result<Node, Stop>
 #[tactic(auto, unfolding(crate::specs::Kind::scalar))]
 pub fn scalar(left: usize, text: Text) -> Result<Node, Stop>
     ensures exact { Reads (λ node. node) result (spec.scalar left text) }
+    ensures refused { IfErr result IsRefused }
 {
     let bytes = text.as_str().as_bytes();
     if is_null(bytes) {

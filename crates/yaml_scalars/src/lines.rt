@@ -1,6 +1,6 @@
 // Block scalars.
 ghost use Rattle.std.specs.Prelude.{◌≡◌, ◌<◌, ◌≤◌, ◌+◌, ◌++◌, false, true, length, replicate, IfOk, IfErr, ◌-◌, ◌^◌, ◌⊎◌};
-ghost use Rattle.yaml_text.specs.Outcome.{Reads};
+ghost use Rattle.yaml_text.specs.Outcome.{IsRefused, Reads};
 ghost use Rattle.yaml_text.specs.Line.{past_spaces};
 ghost use Rattle.yaml_scalars.specs.Lines as spec;
 
@@ -197,6 +197,7 @@ fn past_break(text: &[u8]) -> Result<&[u8], Stop>
     ensures exact { Reads (λ rest. rest.now) result (spec.past_break text.now) }
     ensures within { IfOk result (λ rest. length rest.now ≤ length text.now) }
     ensures shorter { IfOk result (λ rest. 0 < length text.now → length rest.now < length text.now) }
+    ensures refused { IfErr result IsRefused }
 {
     match cut(text) {
         None => Ok(text),

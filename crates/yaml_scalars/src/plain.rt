@@ -1,7 +1,7 @@
 // Plain scalars.
 ghost use Rattle.std.specs.Prelude.{◌≡◌, ◌<◌, ◌≤◌, ◌++◌, false, if◌then◌else◌, length, replicate, IfOk, IfErr, IfSome};
 ghost use Rattle.std.specs.Option.{option_copied};
-ghost use Rattle.yaml_text.specs.Outcome.{Reads};
+ghost use Rattle.yaml_text.specs.Outcome.{IsRefused, Reads};
 ghost use Rattle.yaml_text.specs.Line.{breaks, blank_lines};
 ghost use Rattle.yaml_scalars.specs.Plain as spec;
 
@@ -131,6 +131,7 @@ fn is_over(text: &[u8]) -> bool
 fn part_in_flow<'a>(start: &'a [u8], text: &'a [u8]) -> Result<Option<&'a [u8]>, Stop>
     ensures exact { Reads (λ part. option_copied part) result (spec.part_in_flow start.now text.now) }
     ensures within { IfOk result (λ part. IfSome part (λ t. length t.now ≤ length text.now)) }
+    ensures refused { IfErr result IsRefused }
 {
     if is_marker(start) {
         Err(syntax(start))
@@ -144,6 +145,7 @@ fn part_in_flow<'a>(start: &'a [u8], text: &'a [u8]) -> Result<Option<&'a [u8]>,
 fn part_of_block(text: &[u8]) -> Result<Option<&[u8]>, Stop>
     ensures exact { Reads (λ part. option_copied part) result (spec.part_of_block text.now) }
     ensures within { IfOk result (λ part. IfSome part (λ t. length t.now ≤ length text.now)) }
+    ensures refused { IfErr result IsRefused }
 {
     if is_colon(false, past_white(text.split_at(plain_len(false, text)).1)) {
         Err(syntax(text))
@@ -155,6 +157,7 @@ fn part_of_block(text: &[u8]) -> Result<Option<&[u8]>, Stop>
 fn part_in_block(least: usize, start: &[u8]) -> Result<Option<&[u8]>, Stop>
     ensures exact { Reads (λ part. option_copied part) result (spec.part_in_block least start.now) }
     ensures within { IfOk result (λ part. IfSome part (λ t. length t.now ≤ length start.now)) }
+    ensures refused { IfErr result IsRefused }
 {
     let text = past_spaces(start);
     if spaces(start) < least {
@@ -171,6 +174,7 @@ fn part_in_block(least: usize, start: &[u8]) -> Result<Option<&[u8]>, Stop>
 fn goes_on(flow: bool, least: usize, start: &[u8]) -> Result<Option<&[u8]>, Stop>
     ensures exact { Reads (λ part. option_copied part) result (spec.goes_on flow least start.now) }
     ensures within { IfOk result (λ part. IfSome part (λ t. length t.now ≤ length start.now)) }
+    ensures refused { IfErr result IsRefused }
 {
     let text = past_white(start);
     if is_over(text) {

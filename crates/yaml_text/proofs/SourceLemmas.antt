@@ -1,5 +1,5 @@
 -- Which text the rules read, by whether the bytes are UTF-8.
-use Rattle.std.proofs.Common.{◌≡◌, Bool, true, false, cond, [], ◌∷◌, ◌++◌, take, refl, ap}
+use Rattle.std.proofs.Common.{◌≡◌, ℕ, Bool, true, false, cond, [], ◌∷◌, ◌++◌, take, drop, refl, ap, ◌∙◌}
 use Rattle.std.specs.Str.{IsUtf8, is_utf8}
 use Rattle.std.specs.Str.Lossy.{utf8_valid_len}
 use Rattle.std.proofs.lemmas.Str.{is_utf8-from_IsUtf8, IsUtf8-from_is_utf8}
@@ -20,6 +20,8 @@ pub source_whole : (bs : Text) → IsUtf8 bs → source bs ≡ with_line_feeds (
 unfolding source
 source_whole bs h = ap (λ t. with_line_feeds (past_mark t)) (chosen_true (is_utf8 bs) _ _ (is_utf8-from_IsUtf8 bs h))
 
-pub source_cut : (bs : Text) → (IsUtf8 bs → ⊥) → source bs ≡ with_line_feeds (past_mark (take (utf8_valid_len bs) bs ++ 0 ∷ []))
+pub source_cut : (bs : Text) (n : ℕ) → (IsUtf8 bs → ⊥) → utf8_valid_len bs ≡ n → source bs ≡ with_line_feeds (past_mark (take n bs ++ 0 ∷ drop n bs))
 unfolding source
-source_cut bs h = ap (λ t. with_line_feeds (past_mark t)) (chosen_false (is_utf8 bs) _ _ (is_other bs (is_utf8 bs) refl h))
+source_cut bs n h is =
+    ap (λ t. with_line_feeds (past_mark t)) (chosen_false (is_utf8 bs) _ _ (is_other bs (is_utf8 bs) refl h))
+    ∙ ap (λ m. with_line_feeds (past_mark (take m bs ++ 0 ∷ drop m bs))) is

@@ -2,3 +2,4 @@ pub mod Outcome
 pub mod Line
 pub mod Source
 pub mod Rules
+pub mod Cases

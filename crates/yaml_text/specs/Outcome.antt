@@ -1,5 +1,6 @@
 -- What reading the text that is left gives: a value, or why there is none.
 --     Outcome A            a value, or the first refusal
+--     IsRefused e          reading stopped at what the text has
 --     Reads view r read    a function returned r, which seen by `view` is `read`, unless memory ran out
 use Rattle.std.specs.Prelude.{◌≡◌, ℕ, List, length, Result, Ok, Err}
 use Rattle.yaml_text.specs.declared.refusal.Refusal.{Refusal}
@@ -25,6 +26,11 @@ abbrev pub ◌>>=◌ : {A B : Type 0} → Outcome A → (A → Outcome B) → Ou
 -- no rule reads the text that is left
 abbrev pub syntax : {A : Type 0} → Text → Outcome A
 syntax t = Err (Syntax (length t))
+
+-- reading stopped at what the text has, and not for want of memory
+abbrev pub IsRefused : Stop → Type 0
+IsRefused NoMemory = ⊥
+IsRefused (Refused why) = Unit {0}
 
 abbrev pub Stops : {Y : Type 0} → Stop → Outcome Y → Type 0
 Stops NoMemory read = Unit {0}

@@ -1,5 +1,6 @@
 -- A text as the rules read it, and the line on which a refusal shows.
---     source bytes      the text: in UTF-8, without a byte order mark, each line ended by a line feed (5.2, 5.4)
+--     source bytes      the text: without a byte order mark, each line ended by a line feed (5.2, 5.4), and a character that no text
+--                       may have before the first byte that isn't UTF-8
 --     body_len t        how long the text is before the last line that isn't blank, where that is `...` (9.1.2)
 --     line_of t left    the line that has the first of the `left` bytes at the end of t; for none of them the last line
 use Rattle.std.specs.Prelude.{ℕ, suc, ◌+◌, ◌-◌, max, Bool, true, false, ◌&&◌, if◌then◌else◌, ◌==◌, [], ◌∷◌, ◌++◌, length, take, drop, slice_index, count_by}
@@ -8,9 +9,10 @@ use Rattle.std.specs.Str.Lossy.{utf8_valid_len}
 use Rattle.yaml_text.specs.Outcome.{Text}
 use Rattle.yaml_text.specs.Line.{is_white, is_rest_empty}
 
--- Bytes that aren't UTF-8 stand for one character that no text may have, at which reading ends.
-abbrev pub valid_part : Text → Text
-valid_part bytes = if is_utf8 bytes then bytes else take (utf8_valid_len bytes) bytes ++ 0 ∷ []
+-- Before the first byte that isn't UTF-8 stands a character that no text may have, at which reading ends. The bytes behind it
+-- are in the text, since its last line counts.
+abbrev pub with_stop : Text → Text
+with_stop bytes = if is_utf8 bytes then bytes else take (utf8_valid_len bytes) bytes ++ 0 ∷ drop (utf8_valid_len bytes) bytes
 
 abbrev pub past_mark : Text → Text
 past_mark t = if slice_index t 0 == 239 && slice_index t 1 == 187 && slice_index t 2 == 191 then drop 3 t else t
@@ -21,7 +23,7 @@ with_line_feeds [] = []
 with_line_feeds (b ∷ t) = if b == 13 && slice_index t 0 == 10 then with_line_feeds t else b ∷ with_line_feeds t
 
 unfoldable pub source : Text → Text
-source bytes = with_line_feeds (past_mark (valid_part bytes))
+source bytes = with_line_feeds (past_mark (with_stop bytes))
 
 -- only blank lines and comments are left; `inside` tells that t lies in a comment
 abbrev pub is_all_blank : Bool → Text → Bool

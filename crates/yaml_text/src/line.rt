@@ -1,6 +1,6 @@
 // Characters and lines, each function over the text that is left.
-ghost use Rattle.std.specs.Prelude.{◌≡◌, ◌≢◌, ◌<◌, ◌≤◌, ◌+◌, ◌&&◌, ◌==◌, true, false, [], ◌∷◌, MatchOption, length, drop, ◌-◌, slice_index, IfOk};
-ghost use Rattle.yaml_text.specs.Outcome.{Reads, syntax};
+ghost use Rattle.std.specs.Prelude.{◌≡◌, ◌≢◌, ◌<◌, ◌≤◌, ◌+◌, ◌&&◌, ◌==◌, true, false, [], ◌∷◌, MatchOption, length, drop, ◌-◌, slice_index, IfOk, IfErr};
+ghost use Rattle.yaml_text.specs.Outcome.{IsRefused, Reads, syntax};
 ghost use Rattle.yaml_text.specs.Line as spec;
 
 use crate::refusal::{Stop, syntax};
@@ -113,6 +113,7 @@ pub fn is_rest_empty(text: &[u8]) -> bool
 fn comment(mut text: &[u8]) -> Result<&[u8], Stop>
     ensures exact { Reads (λ rest. rest.now) result (spec.comment text.entry.now) }
     ensures within { IfOk result (λ rest. length rest.now ≤ length text.entry.now) }
+    ensures refused { IfErr result IsRefused }
 {
     while let [first, rest @ ..] = text {
         if *first == b'\n' {
@@ -130,6 +131,7 @@ fn comment(mut text: &[u8]) -> Result<&[u8], Stop>
 pub fn rest_of_line(mut may: bool, mut text: &[u8]) -> Result<&[u8], Stop>
     ensures exact { Reads (λ rest. rest.now) result (spec.rest_of_line may text.entry.now) }
     ensures within { IfOk result (λ rest. length rest.now ≤ length text.entry.now) }
+    ensures refused { IfErr result IsRefused }
 {
     while let [first, rest @ ..] = text {
         if *first == b'\n' {
@@ -149,6 +151,7 @@ fn behind_white<'a>(may: bool, first: u8, text: &'a [u8], rest: &'a [u8]) -> Res
     ensures comment { may ≡ true → first ≡ 35 → Reads (λ rest. rest.now) result (spec.comment rest.now) }
     ensures other { (may && first == 35) ≡ false → Reads (λ rest. rest.now) result (syntax text.now) }
     ensures within { IfOk result (λ left. length left.now ≤ length rest.now) }
+    ensures refused { IfErr result IsRefused }
 {
     if may && first == b'#' {
         comment(rest)
@@ -161,6 +164,7 @@ fn behind_white<'a>(may: bool, first: u8, text: &'a [u8], rest: &'a [u8]) -> Res
 pub fn first_line(mut text: &[u8]) -> Result<&[u8], Stop>
     ensures exact { Reads (λ rest. rest.now) result (spec.first_line text.entry.now) }
     ensures within { IfOk result (λ rest. length rest.now ≤ length text.entry.now) }
+    ensures refused { IfErr result IsRefused }
 {
     let mut start = text;
     let mut inside = false;
@@ -197,6 +201,7 @@ pub fn is_marker(text: &[u8]) -> bool
 pub fn next_line(text: &[u8]) -> Result<&[u8], Stop>
     ensures exact { Reads (λ rest. rest.now) result (spec.next_line text.now) }
     ensures within { IfOk result (λ rest. length rest.now ≤ length text.now) }
+    ensures refused { IfErr result IsRefused }
 {
     let start = first_line(text)?;
     checked(start)
@@ -205,6 +210,7 @@ pub fn next_line(text: &[u8]) -> Result<&[u8], Stop>
 fn checked(start: &[u8]) -> Result<&[u8], Stop>
     ensures exact { Reads (λ rest. rest.now) result (spec.checked start.now) }
     ensures within { IfOk result (λ rest. length rest.now ≤ length start.now) }
+    ensures refused { IfErr result IsRefused }
 {
     let inner = past_spaces(start);
     if byte(inner, 0) == b'\t' || is_marker(start) {

@@ -1,5 +1,5 @@
 // A text as the rules read it.
-ghost use Rattle.std.specs.Prelude.{◌≡◌, ◌<◌, ◌≤◌, ◌+◌, ◌^◌, length, count_by, IfOk, ◌==◌, false};
+ghost use Rattle.std.specs.Prelude.{◌≡◌, ◌<◌, ◌≤◌, ◌+◌, ◌^◌, ◌++◌, ◌∷◌, length, take, drop, count_by, IfOk, ◌==◌, false};
 ghost use Rattle.yaml_text.specs.Source as spec;
 
 use crate::line::{byte, is_rest_empty, is_white};
@@ -29,17 +29,29 @@ fn with_line_feeds(alloc: Global, mut text: &[u8]) -> Result<Vec<u8>, NoMemory>
     Ok(lines)
 }
 
-/// The text, without a byte order mark, each line ended by a line feed, up to its first byte that isn't UTF-8.
-#[tactic(auto, using(crate::proofs::SourceLemmas::source_whole, crate::proofs::SourceLemmas::source_cut))]
+/// The bytes with a character that no text may have before those from `at` on.
+fn with_stop(alloc: Global, bytes: &[u8], at: usize) -> Result<Vec<u8>, NoMemory>
+    requires { at ≤ length bytes.now }
+    ensures { IfOk result (λ text. text.items ≡ take at bytes.now ++ 0 ∷ drop at bytes.now) }
+{
+    let (valid, other) = bytes.split_at(at);
+    let mut text = Vec::from_slice(alloc, valid)?;
+    text.push(0)?;
+    text.extend_from_slice(other)?;
+    Ok(text)
+}
+
+/// The text, without a byte order mark, each line ended by a line feed; a character that no text may have stands before its
+/// first byte that isn't UTF-8.
+#[tactic(auto, using(crate::proofs::SourceLemmas::source_whole))]
 pub fn source(alloc: Global, bytes: &[u8]) -> Result<Vec<u8>, NoMemory>
     ensures { IfOk result (λ text. text.items ≡ spec.source bytes.now) }
 {
     match std::str::from_utf8(bytes) {
         Ok(_) => with_line_feeds(alloc, past_mark(bytes)),
         Err(fault) => {
-            let mut part = Vec::from_slice(alloc, bytes.split_at(fault.valid_up_to()).0)?;
-            part.push(0)?;
-            with_line_feeds(alloc, past_mark(part.as_slice()))
+            let marked = with_stop(alloc, bytes, fault.valid_up_to())?;
+            with_line_feeds(alloc, past_mark(marked.as_slice()))
         }
     }
 }

@@ -1,6 +1,6 @@
 -- What is read are the stages of the only forms that the text has.
 use Rattle.std.proofs.Common.{List, Some, None, option_map, ap, subst, sym, ◌∙◌}
-use Rattle.repro_core.specs.declared.stage.Stage.{Stage}
+use Rattle.repro_laws.specs.declared.stage.Stage.{Stage}
 use Rattle.dvc_cli.specs.Form.{stages_of, IsReading}
 use Rattle.dvc_cli.proofs.FormLaw.{reading-from_read}
 use Rattle.dvc_cli.proofs.form.read_form.Goals as goal

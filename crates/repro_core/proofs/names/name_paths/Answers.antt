@@ -1,11 +1,15 @@
 -- One more path has its name, or has none.
-use Rattle.std.proofs.Common.{◌≡◌, ◌<◌, ◌∙◌, ◌++◌, ◌∷◌, ◌^◌, [], List, get_or, length, Some, sym, ap, subst, rules}
+use Rattle.std.proofs.Common.{◌≡◌, ◌<◌, ◌∙◌, ◌++◌, ◌∷◌, ◌^◌, ℕ, [], List, get_or, length, Some, sym, ap, subst, rules}
 use Rattle.world_api.specs.Tree.{value_at}
 use Rattle.file_hash.specs.Naming.{named_of}
 use Rattle.lock_files.specs.declared.entry.PathEntry.{PathEntry}
-use Rattle.repro_core.specs.Moments.{AreSized}
+use Rattle.repro_laws.specs.Moments.{AreSized}
 use Rattle.world_api.specs.History.{History}
-use Rattle.repro_core.specs.Entries.{named_path}
+use Rattle.repro_laws.specs.Entries.{named_path}
+use Rattle.std.proofs.lemmas.Result.{err_from_is_err_and}
+use Rattle.std.proofs.lemmas.List.{length-map}
+use Rattle.world_api.specs.Effect.{path_from}
+use Rattle.repro_core.proofs.TellLemmas.{change_at}
 use Rattle.repro_core.proofs.NamesLemmas.{named_more, named_stops, sized_more}
 use Rattle.repro_core.proofs.names.name_paths.Goals as goal
 
@@ -47,3 +51,17 @@ loop-at-preserved g c =
       sized = subst AreSized (sym pushed) (sized_more entries entry c.loop-at.invariant.sized size);
       counted = search rules;
     }
+
+pub returns-in_err-entry-clause-told : goal.returns-in_err-entry-clause-told
+returns-in_err-entry-clause-told g c =
+    let paths = c.args.paths.now in
+    let i = c.loop-at.at in
+    let at = c.index-paths-at.result in
+    let fault = c.in_err-entry.field-0.0 in
+    let exit = err_from_is_err_and c.from_residual.result c.from_residual.ensures.1 in
+    let texts = c.args.texts.now in
+    let before : i < length texts = search rules in
+    let count : length paths ≡ length texts = ap length c.requires.named_by ∙ length-map texts (path_from c.args.dir.now) in
+    let within : i < length paths = subst (λ (n : ℕ). i < n) (sym count) before in
+    let there : at ≡ get_or paths i at = search rules in
+    rw (exit.1, exit.2) (change_at paths i at (Some fault) within there c.in_err-entry.ensures.told)

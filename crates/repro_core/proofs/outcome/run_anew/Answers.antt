@@ -8,12 +8,14 @@ use Rattle.world_api.specs.History.{History, Passes, Keeps}
 use Rattle.world_api.specs.Calls.{HasFolders, InRun}
 use Rattle.world_api.specs.declared.job.Job.{Job}
 use Rattle.world_api.proofs.HistoryLemmas.{passes_weaker, passes_on}
-use Rattle.repro_core.specs.Stage.{job_of, stage_outs, IsReady}
-use Rattle.repro_core.specs.Due.{out_fault}
-use Rattle.repro_core.specs.Answer.{fault_in, IsAnswer}
+use Rattle.repro_laws.specs.Stage.{job_of, stage_outs, IsReady}
+use Rattle.repro_laws.specs.Due.{out_fault}
+use Rattle.dvc_base.specs.Answer.{fault_in, IsAnswer}
+use Rattle.repro_laws.specs.Headline.{IsKept}
+use Rattle.repro_laws.specs.Moments.{is_record}
 use Rattle.repro_core.specs.Steps.{WasRun, InAnew}
-use Rattle.repro_core.specs.declared.stage.Stage.{Stage}
-use Rattle.repro_core.proofs.AnewLemmas.{folders_kept}
+use Rattle.repro_laws.specs.declared.stage.Stage.{Stage}
+use Rattle.repro_laws.proofs.AnewLemmas.{folders_kept}
 use Rattle.repro_core.proofs.TurnLemmas.{anew_of_keeps, anew_of_run, answer_of_run, answer_of_look, made_of_look, files_of_look}
 use Rattle.repro_core.proofs.outcome.run_anew.Goals as goal
 
@@ -22,11 +24,11 @@ cleared_moments : (s : Stage) (outs : List Path) (start cleared : History) → o
 cleared_moments s outs start cleared e h =
     subst (λ (ps : List Path). Passes (Keeps (is_in_any ps) start.present) start cleared) e h
 
-run_moments : (s : Stage) (job : Job) (start cleared ran : History) → IsReady s → job ≡ job_of s → Passes (Keeps (is_in_any (stage_outs s)) start.present) start cleared → Passes (InRun job cleared.present) cleared ran → Passes (InAnew s start.present) start ran
-run_moments s job start cleared ran ready e clears run =
+run_moments : (s : Stage) (job : Job) (start cleared ran : History) → IsReady s → IsKept is_record s → job ≡ job_of s → Passes (Keeps (is_in_any (stage_outs s)) start.present) start cleared → Passes (InRun job cleared.present) cleared ran → Passes (InAnew s start.present) start ran
+run_moments s job start cleared ran ready kept e clears run =
     let of_job : Passes (InRun (job_of s) cleared.present) cleared ran =
     subst (λ (j : Job). Passes (InRun j cleared.present) cleared ran) e run in
-    passes_on (InAnew s start.present) (InRun (job_of s) cleared.present) start cleared ran (passes_weaker (Keeps (is_in_any (stage_outs s)) start.present) (InAnew s start.present) start cleared (λ m h. anew_of_keeps s start.present m h) clears) (λ m h. anew_of_run s start.present cleared.present m ready clears.now h) of_job
+    passes_on (InAnew s start.present) (InRun (job_of s) cleared.present) start cleared ran (passes_weaker (Keeps (is_in_any (stage_outs s)) start.present) (InAnew s start.present) start cleared (λ m h. anew_of_keeps s start.present m ready kept h) clears) (λ m h. anew_of_run s start.present cleared.present m ready kept clears.now h) of_job
 
 pub returns-in_default-clause-moments : goal.returns-in_default-clause-moments
 returns-in_default-clause-moments g c told =
@@ -34,7 +36,7 @@ returns-in_default-clause-moments g c told =
     let start = g.W.Ground.history c.args.world.now in
     let cleared = g.W.Ground.history c.clear_outputs.new.world in
     let clears = cleared_moments s c.as_slice.result.now start cleared (c.as_slice.ensures.same ∙ c.requires.plan.outs) (c.clear_outputs.ensures.moments told) in
-    passes_weaker (Keeps (is_in_any (stage_outs s)) start.present) (InAnew s start.present) start cleared (λ m h. anew_of_keeps s start.present m h) clears
+    passes_weaker (Keeps (is_in_any (stage_outs s)) start.present) (InAnew s start.present) start cleared (λ m h. anew_of_keeps s start.present m c.requires.ready c.requires.kept h) clears
 
 pub run_job-requires-clause-folders : goal.run_job-requires-clause-folders
 run_job-requires-clause-folders g c told =
@@ -55,7 +57,7 @@ returns-in_err-run_job-clause-answer g c told =
     let run : WasRun (job_of s) s.name (Some fault) cleared.present ran.present =
     subst (λ (job : Job). WasRun job s.name (Some fault) cleared.present ran.present) c.requires.plan.job (c.in_err-run_job.ensures.ran told) in
     let exit = err_from_is_err_and c.from_residual.result c.from_residual.ensures.1 in
-    rw (exit.1, exit.2) (answer_of_run s start.present cleared.present ran.present fault c.requires.ready (c.requires.deps told) clears.now run c.in_err-run_job.ensures.end)
+    rw (exit.1, exit.2) (answer_of_run s start.present cleared.present ran.present fault c.requires.ready (c.requires.deps told) clears.now run c.in_err-run_job.ensures.kinds)
 
 pub returns-in_err-run_job-clause-moments : goal.returns-in_err-run_job-clause-moments
 returns-in_err-run_job-clause-moments g c told =
@@ -64,7 +66,7 @@ returns-in_err-run_job-clause-moments g c told =
     let cleared = g.W.Ground.history c.clear_outputs.new.world in
     let ran = g.W.Ground.history c.run_job.new.world in
     let clears = cleared_moments s c.as_slice.result.now start cleared (c.as_slice.ensures.same ∙ c.requires.plan.outs) (c.clear_outputs.ensures.moments told) in
-    run_moments s c.args.plan.now.job start cleared ran c.requires.ready c.requires.plan.job clears (c.run_job.ensures.moments told)
+    run_moments s c.args.plan.now.job start cleared ran c.requires.ready c.requires.kept c.requires.plan.job clears (c.run_job.ensures.moments told)
 
 pub returns-clause-answer : goal.returns-clause-answer
 returns-clause-answer g c told =
@@ -107,5 +109,5 @@ returns-clause-moments g c told =
     let cleared = g.W.Ground.history c.clear_outputs.new.world in
     let ran = g.W.Ground.history c.run_job.new.world in
     let clears = cleared_moments s c.as_slice.result.now start cleared (c.as_slice.ensures.same ∙ c.requires.plan.outs) (c.clear_outputs.ensures.moments told) in
-    let moments = run_moments s c.args.plan.now.job start cleared ran c.requires.ready c.requires.plan.job clears (c.run_job.ensures.moments told) in
+    let moments = run_moments s c.args.plan.now.job start cleared ran c.requires.ready c.requires.kept c.requires.plan.job clears (c.run_job.ensures.moments told) in
     subst (λ (h : History). Passes (InAnew s start.present) start h) (sym (c.look_at_outputs.ensures.unchanged told)) moments

@@ -4,8 +4,8 @@ use Rattle.std.specs.List.{list_all}
 use Rattle.std.proofs.lemmas.Bool.{and_parts}
 use Rattle.world_api.specs.Effect.{out_paths}
 use Rattle.world_api.specs.Calls.{is_path, are_apart}
-use Rattle.repro_core.specs.Stage.{job_of, in_order}
-use Rattle.repro_core.proofs.OrderLemmas.{passes_as_written}
+use Rattle.repro_laws.specs.Stage.{job_of, in_order}
+use Rattle.repro_laws.proofs.OrderLemmas.{passes_as_written}
 use Rattle.repro_core.proofs.plan.plan_of.Goals as goal
 
 pub paths_from-requires : goal.paths_from-requires

@@ -1,11 +1,11 @@
 use Rattle.std.proofs.Common.{◌≡◌, [], take, Some, IsTrue}
 use Rattle.world_api.specs.Effect.{Effect}
 use Rattle.world_api.specs.Writes.{CanWrite}
-use Rattle.repro_core.specs.Choices.{due}
-use Rattle.repro_core.specs.Answer.{IsCounted}
-use Rattle.repro_core.specs.Moments.{lock_path}
-use Rattle.repro_core.specs.Sound.{lock_of}
-use Rattle.repro_core.proofs.SoFarLemmas.{SoFar, IsTold}
+use Rattle.repro_laws.specs.Choices.{due}
+use Rattle.world_api.specs.History.{IsCaused}
+use Rattle.world_api.specs.Layout.{lock_path}
+use Rattle.repro_laws.specs.Sound.{lock_of}
+use Rattle.repro_laws.proofs.SoFarLemmas.{SoFar, IsTold}
 use Rattle.repro_core.proofs.turns.repro.Given as goal
 
 -- the turns of the stages so far have ended, the lock that stands is theirs, and it can be written again. Where nothing is
@@ -17,6 +17,6 @@ invariant-loop-stage g l = record {
   so_far : IsTrue g.W.Ground.tells → (effect : Effect) → (g.W.Ground.history l.fn.world).present.aside.fixed.effect ≡ Some effect → SoFar effect (take l.stage-index l.stages) l.fn.lock l.lock (g.W.Ground.history l.fn.world) (g.W.Ground.history l.world) g.K.Sink.tells (g.K.Sink.taken l.fn.out) (g.K.Sink.taken l.out);
   lines : IsTrue g.K.Sink.tells → IsTold (take l.stage-index l.stages) (g.K.Sink.taken l.fn.out) (g.K.Sink.taken l.out);
   idle : IsTrue g.W.Ground.tells → (effect : Effect) → (g.W.Ground.history l.fn.world).present.aside.fixed.effect ≡ Some effect → due effect l.stages (g.W.Ground.history l.fn.world).present.tree l.fn.lock ≡ [] → (take l.stage-index l.stages ≡ []) × (g.W.Ground.history l.world ≡ g.W.Ground.history l.fn.world);
-  world_counted : IsCounted (g.W.Ground.faults l.fn.world) (g.W.Ground.faults l.world) ⊥;
-  out_counted : IsCounted (g.K.Sink.faults l.fn.out) (g.K.Sink.faults l.out) ⊥;
+  world_counted : IsCaused (g.W.Ground.faults l.fn.world) (g.W.Ground.faults l.world) ⊥;
+  out_counted : IsCaused (g.K.Sink.faults l.fn.out) (g.K.Sink.faults l.out) ⊥;
 }

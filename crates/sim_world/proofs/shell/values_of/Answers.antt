@@ -3,4 +3,4 @@ use Rattle.sim_world.proofs.shell.values_of.Goals as goal
 
 pub loop-text-preserved : goal.loop-text-preserved
 loop-text-preserved c =
-    values_step c.args.tree.now c.args.dir.now c.args.texts.now c.loop-text.text-index c.text-item.result c.loop-text.values c.push.new.self c.in_ok-path.path c.in_ok-value.value c.in_ok-at.at c.loop-text-test.true c.text-item.is c.loop-text.invariant c.in_ok-push.ensures.ok c.in_ok-path.ensures.same c.in_ok-value.ensures.told c.in_ok-at.ensures.named
+    values_step c.args.tree.now c.args.dir.now c.args.texts.now c.loop-text.text-index c.text-item.result c.loop-text.values c.push_value.new.values c.loop-text-test.true c.text-item.is c.loop-text.invariant c.in_ok-push_value.ensures.pushed

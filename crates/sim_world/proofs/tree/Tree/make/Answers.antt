@@ -7,4 +7,4 @@ pub invariant_of-self : goal.invariant_of-self
 invariant_of-self c =
     let has = has_place-parts c.args.self.now c.args.at.now (sym c.in_ok-has_place.ensures.told ∙ c.if-not-branch.false) in
     let here = rw (← c.self.view_is) at has.1 in
-    rw (c.in_ok-put.ensures.ok, c.in_ok-copy.ensures.same, c.in_ok-entries.ensures.same, c.deref.ensures.value) (tree-put _ c.args.at.now _ c.self.invariant has.0 here (λ m some. refl))
+    rw (c.in_ok-put_folder.ensures.ok, c.in_ok-entries.ensures.same, c.deref.ensures.value) (tree-put _ c.args.at.now _ c.self.invariant has.0 here (λ m some. refl))

@@ -1,0 +1,171 @@
+"""What the checks and the measurements share: the programs, small projects and their files, and how a check ends.
+
+The programs are those that `rt ci` or `./demo` leaves in this clone; the environment variables DVC and YAML_DUMP name
+others. Under CI=true nothing is passed over: a check that lacks a tool fails.
+"""
+import hashlib
+import os
+import shutil
+import stat
+import subprocess
+import time
+from dataclasses import dataclass
+
+TOP = os.path.dirname(os.path.dirname(os.path.abspath(__file__)))
+MIB = 1 << 20
+
+
+def built(variable, crate):
+    """The path of a program of this repository, or of the one that the variable names."""
+    return os.path.abspath(os.environ.get(variable) or os.path.join(TOP, "crates", crate, "out", crate))
+
+
+DVC = built("DVC", "dvc")
+YAML_DUMP = built("YAML_DUMP", "yaml_dump")
+
+
+def need_built(program):
+    """Ends the script where the program wasn't built."""
+    if not os.access(program, os.X_OK):
+        raise SystemExit(f"{program} isn't built: run .ci/run first (./demo builds dvc alone)")
+
+
+def passed_over(what, why):
+    """Says that a check isn't made here; under CI that is a failure."""
+    if os.environ.get("CI") == "true":
+        raise SystemExit(f"{what}: {why}, and under CI nothing is passed over")
+    print(f"{what}: {why}, so this was not tried", flush=True)
+
+
+def has_tool(what, tool):
+    """Whether the tool is installed; where it isn't, that is said, or fails."""
+    if shutil.which(tool):
+        return True
+    passed_over(what, f"no {tool} here")
+    return False
+
+
+def shown(value):
+    """A value as a failure prints it: at most its first and its last 300 characters."""
+    text = repr(value)
+    return text if len(text) <= 700 else f"{text[:300]} .. {text[-300:]}"
+
+
+def expect(what, got, wanted):
+    """Ends the script where a value isn't the wanted one."""
+    if got != wanted:
+        raise SystemExit(f"{what}: {shown(got)} in the place of {shown(wanted)}")
+
+
+def stage(name, command, deps, outs):
+    """The lines of one stage in `dvc.yaml`."""
+    lines = [f"  {name}:", f"    cmd: {command}", "    deps:"] + [f"    - {dep}" for dep in deps]
+    return "\n".join(lines + ["    outs:"] + [f"    - {out}" for out in outs]) + "\n"
+
+
+def stages(*texts):
+    """A `dvc.yaml` of these stages."""
+    return "stages:\n" + "".join(texts)
+
+
+def runs(name, command):
+    """The lines that tell a run."""
+    return f"Running stage '{name}':\n> {command}\n"
+
+
+def skips(name):
+    """The line that tells a skip."""
+    return f"Stage '{name}' didn't change, skipping\n"
+
+
+def entry(name, command, deps, outs):
+    """The lines of one stage in `dvc.lock`, by the contents of its dependencies and outputs."""
+    lines = [f"  {name}:\n    cmd: {command}\n"]
+    for key, paths in (("deps", deps), ("outs", outs)):
+        lines.append(f"    {key}:\n")
+        for path, content in sorted(paths.items()):
+            lines.append(path_entry(path, hashlib.md5(content).hexdigest(), len(content)))
+    return "".join(lines)
+
+
+def path_entry(path, digest, size):
+    """The lines of a dependency or an output in `dvc.lock`."""
+    return f"    - path: {path}\n      hash: md5\n      md5: {digest}\n      size: {size}\n"
+
+
+def lock(entries):
+    """A `dvc.lock` of these entries."""
+    return "schema: '2.0'\nstages:\n" + "".join(entries)
+
+
+def write(folder, name, text):
+    """Puts a text or bytes in a file; no text removes the file, where there is one."""
+    path = os.path.join(folder, name)
+    if text is None:
+        if os.path.lexists(path):
+            os.remove(path)
+        return
+    with open(path, "wb") as file:
+        file.write(text if isinstance(text, bytes) else text.encode())
+
+
+def read(folder, name):
+    """The bytes of a file, or none where nothing stands there."""
+    try:
+        with open(os.path.join(folder, name), "rb") as file:
+            return file.read()
+    except FileNotFoundError:
+        return None
+
+
+@dataclass(frozen=True)
+class Link:
+    """A symbolic link in a tree."""
+
+    target: str
+
+
+def plant(folder, tree):
+    """Puts a tree in a folder: by each path the bytes of a file, None for a folder, or a Link."""
+    for path in sorted(tree):
+        content, place = tree[path], os.path.join(folder, path)
+        if content is None:
+            os.mkdir(place)
+        elif isinstance(content, Link):
+            os.symlink(content.target, place)
+        else:
+            write(folder, path, content)
+
+
+def planted(folder):
+    """The tree that stands in a folder; what is no file, folder or link is told by its mode."""
+    tree = {}
+    for at, folders, files in os.walk(folder):
+        for place in (os.path.join(at, name) for name in folders + files):
+            path, mode = os.path.relpath(place, folder), os.lstat(place).st_mode
+            if stat.S_ISLNK(mode):
+                tree[path] = Link(os.readlink(place))
+            elif stat.S_ISREG(mode):
+                tree[path] = read(folder, path)
+            else:
+                tree[path] = None if stat.S_ISDIR(mode) else mode
+    return tree
+
+
+def repro(folder, words=("repro",), program=DVC, **how):
+    """Runs the program in the folder: its status, and what it put on its output and its error output."""
+    how = {"stdout": subprocess.PIPE, "stderr": subprocess.PIPE, **how}
+    done = subprocess.run([program, *words], cwd=folder, check=False, **how)
+    return done.returncode, (done.stdout or b"").decode(), (done.stderr or b"").decode()
+
+
+def seconds(words, folder, statuses=(0,)):
+    """The seconds that a command takes, without what it prints; another status ends the script."""
+    start = time.perf_counter()
+    how = {"stdin": subprocess.DEVNULL, "stdout": subprocess.DEVNULL, "stderr": subprocess.PIPE}
+    done = subprocess.run(words, cwd=folder, check=False, **how)
+    taken = time.perf_counter() - start
+    if done.returncode not in statuses:
+        told = done.stderr.decode(errors="replace")
+        raise SystemExit(f"{shown(' '.join(words))} ended with {done.returncode}: {shown(told)}")
+    return taken

@@ -1,0 +1,28 @@
+-- Entries that are the same.
+--     same_entry a b     the same commands, and the same paths with the same names and sizes
+use Rattle.std.specs.Prelude.{ℕ, Bool, true, false, ◌&&◌, not, Option, Some, None, bytes_eq, ◌==◌}
+use Rattle.std.specs.Cmp.Lexicographic.{pointwise}
+use Rattle.lock_files.specs.declared.entry.Entry.{Entry}
+use Rattle.lock_files.specs.declared.entry.PathEntry.{PathEntry}
+
+abbrev pub same_truth : Bool → Bool → Bool
+same_truth true b = b
+same_truth false b = not b
+
+abbrev pub same_count : Option ℕ → Option ℕ → Bool
+same_count None None = true
+same_count None (Some n) = false
+same_count (Some m) None = false
+same_count (Some m) (Some n) = m == n
+
+abbrev pub same_path : PathEntry → PathEntry → Bool
+same_path a b =
+    bytes_eq a.path b.path
+    && (bytes_eq a.name.digits b.name.digits
+    && (same_truth a.name.dir b.name.dir
+    && ((a.size == b.size) && same_count a.nfiles b.nfiles)))
+
+abbrev pub same_entry : Entry → Entry → Bool
+same_entry a b =
+    pointwise bytes_eq a.commands b.commands
+    && (pointwise same_path a.deps b.deps && pointwise same_path a.outs b.outs)

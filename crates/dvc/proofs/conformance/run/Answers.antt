@@ -1,5 +1,0 @@
--- The folders of the job stand in every tree.
-use Rattle.dvc.proofs.conformance.run.Goals as goal
-
-pub run-requires-clause-folders : goal.run-requires-clause-folders
-run-requires-clause-folders g c told = c.in_ok-job.ensures.folders (g.W.Ground.history c.args.world.now).present.tree

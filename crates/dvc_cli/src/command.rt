@@ -1,0 +1,107 @@
+// The top call: all that the program does.
+ghost use Rattle.std.specs.Prelude.{◌≡◌, IsTrue, MatchOption, Some};
+ghost use Rattle.dvc_base.specs.Answer.{fault_in};
+ghost use Rattle.dvc_base.specs.declared.fault.Fault.TheVariants.{WorldFault, OutFault};
+ghost use Rattle.world_api.specs.History.{IsCaused};
+ghost use Rattle.world_api.specs.Outside.{WithEffect};
+ghost use Rattle.dvc_cli.specs.Tell.{fault_line, Tells};
+ghost use Rattle.dvc_cli.specs.Command.{is_repro, exit_status, DoesCommand, Refuses, Answers, PutsReport};
+
+use crate::message::tell;
+use crate::workspace::read_workspace;
+use dvc_base::{Fault, Texts};
+use repro_core::repro;
+use std::alloc::Global;
+use world_api::{Sink, World};
+
+/// How a call of the program ended: its exit status, and the fault that it told, if there is one.
+#[derive(Drop)]
+pub struct Done {
+    pub status: u8,
+    pub fault: Option<Fault>,
+}
+
+/// Does what the words say: reads the workspace, takes the turns of its stages, and tells a fault on `err`.
+///
+/// The words are those after the program's name; the only ones so far are `repro`.
+pub fn dvc<W: World, K: Sink>(
+    alloc: Global,
+    words: &Texts,
+    world: &mut W,
+    out: &mut K,
+    err: &mut K,
+) -> Done
+    // Ok leaves the outputs and the lock's entries that running every stage anew in dependency order gives, and all else as
+    // before: where what was remembered is true, and no two contents met share an MD5. `DoesCommand` has that and what is
+    // left by a refusal and by a stop, a line each.
+    ensures does { WithEffect W.tells (W.history world.old) (λ effect.
+        DoesCommand words.now effect result.fault (W.history world.old) (W.history world.new)) }
+    ensures refuses { IsTrue W.tells →
+        Refuses words.now result.fault (W.history world.old) (W.history world.new) }
+    ensures kinds { Answers words.now W.tells result.fault }
+    ensures puts { IsTrue K.tells → PutsReport words.now W.tells result.fault
+        (W.history world.old) (W.history world.new) (K.taken out.old) (K.taken out.new) }
+    ensures world_cause { IsCaused (W.faults world.old) (W.faults world.new) (result.fault ≡ Some WorldFault) }
+    ensures out_cause { IsCaused (K.faults out.old) (K.faults out.new) (result.fault ≡ Some OutFault) }
+
+    // The status is the fault's, whose line is told; a failing `err` changes nothing in the answer.
+    ensures status { result.status ≡ exit_status result.fault }
+    ensures told { IsTrue K.tells → MatchOption result.fault (K.taken err.new ≡ K.taken err.old) (λ fault.
+        Tells (K.faults err.old) (K.faults err.new) (K.taken err.old) (fault_line fault) (K.taken err.new)) }
+    ensures err_count { IsCaused (K.faults err.old) (K.faults err.new) ⊥ }
+{
+    match perform(alloc, words, world, out) {
+        Ok(()) => Done {
+            status: 0,
+            fault: None,
+        },
+        Err(fault) => {
+            // A failing `err` changes nothing in the answer.
+            let _ = tell(&fault, err);
+            Done {
+                status: fault.status(),
+                fault: Some(fault),
+            }
+        }
+    }
+}
+
+// Does what the words say, and answers the fault.
+fn perform<W: World, K: Sink>(
+    alloc: Global,
+    words: &Texts,
+    world: &mut W,
+    out: &mut K,
+) -> Result<(), Fault>
+    ensures does { WithEffect W.tells (W.history world.old) (λ effect.
+        DoesCommand words.now effect (fault_in result) (W.history world.old) (W.history world.new)) }
+    ensures refuses { IsTrue W.tells →
+        Refuses words.now (fault_in result) (W.history world.old) (W.history world.new) }
+    ensures kinds { Answers words.now W.tells (fault_in result) }
+    ensures puts { IsTrue K.tells → PutsReport words.now W.tells (fault_in result)
+        (W.history world.old) (W.history world.new) (K.taken out.old) (K.taken out.new) }
+    ensures world_cause { IsCaused (W.faults world.old) (W.faults world.new) (fault_in result ≡ Some WorldFault) }
+    ensures out_cause { IsCaused (K.faults out.old) (K.faults out.new) (fault_in result ≡ Some OutFault) }
+{
+    if !is_repro(words) {
+        return Err(Fault::BadWords);
+    }
+    let mut workspace = read_workspace(alloc, world)?;
+    repro(
+        alloc,
+        world,
+        &mut workspace.lock,
+        workspace.stages.as_slice(),
+        out,
+    )
+}
+
+// The one command so far.
+fn is_repro(words: &Texts) -> bool
+    ensures { result ≡ is_repro words.now }
+{
+    match words.as_slice() {
+        [word] => word.as_str() == "repro",
+        _ => false,
+    }
+}

@@ -1,0 +1,112 @@
+// The workspace: its stages, and what is remembered of them.
+ghost use Rattle.std.specs.Prelude.{◌≡◌, IsTrue, IfOk, IsErrOf, Some};
+ghost use Rattle.dvc_base.specs.Answer.{fault_in, IsAnswer};
+ghost use Rattle.dvc_base.specs.Fault.{MayBe, IsHonest};
+ghost use Rattle.dvc_base.specs.declared.fault.Fault.TheVariants.{WorldFault};
+ghost use Rattle.world_api.specs.Tree.{item_at};
+ghost use Rattle.world_api.specs.History.{IsCaused};
+ghost use Rattle.world_api.specs.Layout.{dvc_path, lock_path};
+ghost use Rattle.world_api.specs.Outside.{tree_of, IsUntouched};
+ghost use Rattle.world_api.specs.Writes.{CanWrite};
+ghost use Rattle.file_bytes.specs.Reading.{IsTold};
+ghost use Rattle.repro_laws.specs.Sound.{lock_of};
+ghost use Rattle.dvc_cli.specs.Workspace.{stages_in, AreUsable, place_fault, lock_fault, workspace_fault, read_kinds};
+
+use crate::read::read_text;
+use crate::stages::read_stages;
+use dvc_base::{Fault, Rel};
+use lock_files::{LockBook, LockFault, read_lock};
+use repro_laws::Stages;
+use std::alloc::Global;
+use world_api::{Kind, ReadFiles, dvc_path, lock_path};
+
+/// The stages of a workspace in their order, and what is remembered of them.
+#[derive(Drop)]
+pub(crate) struct Workspace {
+    pub(crate) stages: Stages,
+    pub(crate) lock: LockBook,
+}
+
+pub(crate) fn read_workspace<F: ReadFiles>(alloc: Global, files: &mut F) -> Result<Workspace, Fault>
+    ensures ready { IfOk result (λ workspace. AreUsable workspace.stages) }
+    ensures planned { IsTrue F.tells → IfOk result (λ workspace.
+        stages_in (tree_of (F.history files.old)) ≡ Some workspace.stages) }
+    ensures remembered { IsTrue F.tells → IfOk result (λ workspace.
+        lock_of (tree_of (F.history files.old)) ≡ Some workspace.lock) }
+    ensures place { IsTrue F.tells → IfOk result (λ workspace.
+        CanWrite lock_path (tree_of (F.history files.old))) }
+    ensures answer { IsTrue F.tells →
+        IsAnswer (fault_in result) (workspace_fault (tree_of (F.history files.old))) }
+    ensures unchanged { IsUntouched F.tells (F.history files.old) (F.history files.new) }
+    ensures kinds { MayBe read_kinds (fault_in result) }
+    ensures honest { IsHonest F.tells (fault_in result) }
+    ensures cause { IsCaused (F.faults files.old) (F.faults files.new) (IsErrOf result WorldFault) }
+{
+    check_place(alloc, files)?;
+    let stages = read_stages(alloc, files)?;
+    let lock = read_book(alloc, files)?;
+    Ok(Workspace { stages, lock })
+}
+
+// The folder of the tool's own files may be missing, but no file may stand there.
+fn check_place<F: ReadFiles>(alloc: Global, files: &mut F) -> Result<(), Fault>
+    ensures answer { IsTrue F.tells → IsAnswer (fault_in result)
+        (place_fault (item_at (tree_of (F.history files.old)) dvc_path)) }
+    ensures unchanged { IsUntouched F.tells (F.history files.old) (F.history files.new) }
+    ensures kinds { MayBe read_kinds (fault_in result) }
+    ensures honest { IsHonest F.tells (fault_in result) }
+    ensures cause { IsCaused (F.faults files.old) (F.faults files.new) (IsErrOf result WorldFault) }
+{
+    let at = dvc_path(alloc)?;
+    match files.kind(&at) {
+        Ok(Kind::File { .. }) => Err(Fault::NotFolder { path: at }),
+        Ok(_) => Ok(()),
+        Err(_) => Err(Fault::WorldFault),
+    }
+}
+
+// What is remembered: nothing where no lock stands.
+fn read_book<F: ReadFiles>(alloc: Global, files: &mut F) -> Result<LockBook, Fault>
+    ensures remembered { IsTrue F.tells → IfOk result (λ lock.
+        lock_of (tree_of (F.history files.old)) ≡ Some lock) }
+    ensures answer { IsTrue F.tells → IsAnswer (fault_in result)
+        (lock_fault (lock_of (tree_of (F.history files.old)))) }
+    ensures unchanged { IsUntouched F.tells (F.history files.old) (F.history files.new) }
+    ensures kinds { MayBe read_kinds (fault_in result) }
+    ensures honest { IsHonest F.tells (fault_in result) }
+    ensures cause { IsCaused (F.faults files.old) (F.faults files.new) (IsErrOf result WorldFault) }
+{
+    let at = lock_path(alloc)?;
+    match files.kind(&at) {
+        Ok(Kind::Missing) => Ok(LockBook::new(alloc)),
+        Ok(Kind::File { size }) => read_lock_file(alloc, files, at, size),
+        Ok(Kind::Folder) => Err(Fault::NotBuilt { file: at }),
+        Err(_) => Err(Fault::WorldFault),
+    }
+}
+
+// What the file remembers, which was told to have this size.
+fn read_lock_file<F: ReadFiles>(
+    alloc: Global,
+    files: &mut F,
+    at: Rel,
+    size: u64,
+) -> Result<LockBook, Fault>
+    requires path { at ≡ lock_path }
+    requires told { IsTrue F.tells → IsTold (item_at (tree_of (F.history files.old)) at) size }
+    ensures remembered { IsTrue F.tells → IfOk result (λ lock.
+        lock_of (tree_of (F.history files.old)) ≡ Some lock) }
+    ensures answer { IsTrue F.tells → IsAnswer (fault_in result)
+        (lock_fault (lock_of (tree_of (F.history files.old)))) }
+    ensures unchanged { IsUntouched F.tells (F.history files.old) (F.history files.new) }
+    ensures kinds { MayBe read_kinds (fault_in result) }
+    ensures honest { IsHonest F.tells (fault_in result) }
+    ensures cause { IsCaused (F.faults files.old) (F.faults files.new) (IsErrOf result WorldFault) }
+{
+    let text = read_text(alloc, files, &at, size)?;
+    match read_lock(alloc, &text) {
+        Ok(lock) => Ok(lock),
+        Err(LockFault::NotLock) => Err(Fault::NotBuilt { file: at }),
+        Err(LockFault::NoMemory) => Err(Fault::NoMemory),
+    }
+}

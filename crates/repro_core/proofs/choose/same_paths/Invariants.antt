@@ -1,8 +1,0 @@
-use Rattle.std.proofs.Common.{◌≡◌, drop}
-use Rattle.repro_core.specs.Entries.{same_path}
-use Rattle.std.specs.Cmp.Lexicographic.{pointwise}
-use Rattle.repro_core.proofs.choose.same_paths.Given as goal
-
--- it is left to compare what follows
-abbrev pub invariant-loop-at : goal.invariant-loop-at
-invariant-loop-at l = pointwise same_path l.a l.b ≡ pointwise same_path (drop l.at l.a) (drop l.at l.b)

@@ -1,7 +1,0 @@
-use Rattle.std.proofs.Common.{◌≡◌, drop, bytes_eq}
-use Rattle.std.specs.Cmp.Lexicographic.{pointwise}
-use Rattle.repro_core.proofs.choose.same_texts.Given as goal
-
--- it is left to compare what follows
-abbrev pub invariant-loop-at : goal.invariant-loop-at
-invariant-loop-at l = pointwise bytes_eq l.a l.b ≡ pointwise bytes_eq (drop l.at l.a) (drop l.at l.b)

@@ -1,5 +1,0 @@
-use Rattle.repro_core.proofs.EntryLaw.{skip_exact}
-use Rattle.repro_core.proofs.law.choice_law.Goals as goal
-
-pub returns : goal.returns
-returns c = skip_exact

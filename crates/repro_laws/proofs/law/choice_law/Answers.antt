@@ -1,0 +1,5 @@
+use Rattle.repro_laws.proofs.EntryLaw.{skip_exact}
+use Rattle.repro_laws.proofs.law.choice_law.Goals as goal
+
+pub returns : goal.returns
+returns c = skip_exact

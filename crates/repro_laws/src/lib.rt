@@ -1,0 +1,10 @@
+//! What running every stage anew gives, what is due where something is remembered, and the laws of both.
+#![tactic(auto)]
+
+mod law;
+mod order;
+mod stage;
+
+pub use law::{choice_law, headline_law, sound_law, stop_law};
+pub use order::in_order;
+pub use stage::{Choice, Stage, Stages};

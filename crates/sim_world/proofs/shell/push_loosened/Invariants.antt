@@ -1,8 +1,0 @@
-use Rattle.std.proofs.Common.{◌≡◌, ◌++◌, take, map}
-use Rattle.world_api.specs.Effect.{path_from}
-use Rattle.sim_world.specs.declared.change.Change.TheVariants.{Loosened}
-use Rattle.sim_world.proofs.shell.push_loosened.Given as goal
-
-abbrev pub invariant-loop-out : goal.invariant-loop-out
-invariant-loop-out l =
-    l.changes.items ≡ l.initial.changes.items ++ map (λ out. Loosened (path_from l.job.dir out)) (take l.out-index l.out-items)

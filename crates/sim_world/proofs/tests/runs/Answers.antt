@@ -1,5 +1,0 @@
--- The folders of the job stand in every tree.
-use Rattle.sim_world.proofs.tests.runs.Goals as goal
-
-pub run-requires-clause-folders : goal.run-requires-clause-folders
-run-requires-clause-folders g c = c.in_ok-job.ensures.folders _
