@@ -1,4 +1,5 @@
--- What is refused in a `dvc.yaml`: the first of these that applies, in the order in which they are written here and in the file.
+-- What is refused in a `dvc.yaml`: the first of these that applies, in the order in which they are written here and in
+-- the file.
 --     fault_in root          the first refusal of a whole file
 --     stage_fault s          that of a stage: its name, its templates, its keys, a missing `cmd`, and then its paths
 --     value_fault name p     that of a key of a stage: the table of stage keys
@@ -39,7 +40,8 @@ is_left_out word v =
 abbrev pub option_fault : List ℕ → List ℕ → List ℕ → Pair → Option ExpandFault
 option_fault name key path p =
     let word = key_of p in
-    if bytes_eq word (codes "cache") then unless (is_bool (value_of p)) (schema_at (codes "stages" ∷ name ∷ key ∷ path ∷ word ∷ []))
+    if bytes_eq word (codes "cache") then
+    unless (is_bool (value_of p)) (schema_at (codes "stages" ∷ name ∷ key ∷ path ∷ word ∷ []))
     else unless (not (is_left_out word (value_of p))) (unsupported_at (codes "stages" ∷ name ∷ word ∷ []))
 
 abbrev pub options_fault : List ℕ → List ℕ → Pair → Option ExpandFault
@@ -107,7 +109,8 @@ value_fault name p =
 
 abbrev pub is_template_key : List ℕ → Bool
 is_template_key key =
-    bytes_eq key (codes "vars") || (bytes_eq key (codes "foreach") || (bytes_eq key (codes "do") || bytes_eq key (codes "matrix")))
+    bytes_eq key (codes "vars")
+    || (bytes_eq key (codes "foreach") || (bytes_eq key (codes "do") || bytes_eq key (codes "matrix")))
 
 abbrev pub is_template : List ℕ → Bool
 is_template text = has_part (codes "${") text
@@ -164,11 +167,11 @@ path_fault name p =
 -- ---- stages
 
 -- `@`, `:`, `/` and the line feed stand in no name of a stage
-abbrev pub is_apart : ℕ → Bool
-is_apart b = list_any (nat_eq b) (codes "@:/\n")
+abbrev pub is_separator : ℕ → Bool
+is_separator b = list_any (nat_eq b) (codes "@:/\n")
 
 abbrev pub is_stage_name : List ℕ → Bool
-is_stage_name name = not (length name == 0) && not (list_any is_apart name)
+is_stage_name name = not (length name == 0) && not (list_any is_separator name)
 
 abbrev pub keys_fault : List ℕ → List Pair → Option ExpandFault
 keys_fault name pairs =
@@ -204,7 +207,8 @@ stages_fault stages = limited_fault (limit_of Stages) stages
 -- what is passed over at the top, whatever it is
 abbrev pub is_top_note_key : List ℕ → Bool
 is_top_note_key key =
-    bytes_eq key (codes "artifacts") || (bytes_eq key (codes "plots") || (bytes_eq key (codes "metrics") || bytes_eq key (codes "params")))
+    bytes_eq key (codes "artifacts")
+    || (bytes_eq key (codes "plots") || (bytes_eq key (codes "metrics") || bytes_eq key (codes "params")))
 
 -- the table of top-level keys
 abbrev pub is_top_value : List ℕ → Layer → Bool

@@ -4,7 +4,7 @@ ghost use Rattle.dvc_base.specs.declared.node.Node.{out-Node};
 ghost use Rattle.std.specs.List.{list_any};
 ghost use Rattle.template_expand.specs.Node.{key_of};
 ghost use Rattle.template_expand.specs.Refusal.{Checks, first_in};
-ghost use Rattle.template_expand.specs.Schema.{value_fault, path_fault, has_template, is_template_key, is_apart, is_stage_name, keys_fault, named_fault, stage_fault, limited_fault, stages_fault, is_top_note_key, is_top_value, top_fault, file_fault, fault_in};
+ghost use Rattle.template_expand.specs.Schema.{value_fault, path_fault, has_template, is_template_key, is_separator, is_stage_name, keys_fault, named_fault, stage_fault, limited_fault, stages_fault, is_top_note_key, is_top_value, top_fault, file_fault, fault_in};
 
 use crate::ExpandFault;
 use crate::fault::schema_at;
@@ -134,18 +134,18 @@ fn check_named(alloc: Global, name: &str, pairs: &[Pair]) -> Result<(), ExpandFa
 fn is_stage_name(name: &str) -> bool
     ensures exact { result ≡ is_stage_name name.now }
 {
-    !name.is_empty() && !has_apart(name.as_bytes())
+    !name.is_empty() && !has_separator(name.as_bytes())
 }
 
-fn has_apart(name: &[u8]) -> bool
-    ensures exact { result ≡ list_any is_apart name.now }
+fn has_separator(name: &[u8]) -> bool
+    ensures exact { result ≡ list_any is_separator name.now }
 {
-    name.iter().any(|byte| is_apart(*byte))
+    name.iter().any(|byte| is_separator(*byte))
 }
 
 // What stands in no name of a stage.
-fn is_apart(byte: u8) -> bool
-    ensures exact { result ≡ is_apart byte }
+fn is_separator(byte: u8) -> bool
+    ensures exact { result ≡ is_separator byte }
 {
     matches!(byte, b'@' | b':' | b'/' | b'\n')
 }
