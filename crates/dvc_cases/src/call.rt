@@ -10,7 +10,7 @@ use world_api::{Sink, World};
 
 /// How a call ended.
 #[derive(Clone, Copy)]
-pub struct End {
+pub(crate) struct End {
     pub status: u8,
     pub is_ok: bool,
     /// Of a file that changed: the size that it was told to have, and the size that was found.
@@ -19,17 +19,17 @@ pub struct End {
 
 /// The numbers of the puts that fail, on the output and on the error output. No put has the number 0.
 #[derive(Clone, Copy)]
-pub struct FailingPuts {
+pub(crate) struct FailingPuts {
     pub out: u32,
     pub err: u32,
 }
 
 impl FailingPuts {
-    pub const NONE: FailingPuts = FailingPuts { out: 0, err: 0 };
+    pub(crate) const NONE: FailingPuts = FailingPuts { out: 0, err: 0 };
 }
 
 /// Does what the words say, and looks at what the outputs took.
-pub fn perform<R: Runtime, W: World>(
+pub(crate) fn perform<R: Runtime, W: World>(
     rt: &R,
     alloc: Global,
     words: &Texts,

@@ -9,7 +9,7 @@ use std::rt::Runtime;
 use std::test::Fail;
 
 /// Plays a `repro` beside each lock.
-pub fn play_all<R: Runtime>(rt: &R, alloc: Global) -> Result<(), Fail> {
+pub(crate) fn play_all<R: Runtime>(rt: &R, alloc: Global) -> Result<(), Fail> {
     let words = words_of(alloc, "repro")?;
     play_with(rt, alloc, &words)
 }

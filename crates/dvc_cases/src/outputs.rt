@@ -14,7 +14,7 @@ const COMMAND_FAULT: &[u8] = b"ERROR: stage 'copy' failed with 3\n";
 
 /// What is wanted of both outputs.
 #[derive(Clone, Copy)]
-pub enum Outputs {
+pub(crate) enum Outputs {
     /// Anything, which is printed.
     Printed,
     /// The refusal of a lock, and nothing else.
@@ -25,7 +25,12 @@ pub enum Outputs {
     FailedCommand,
 }
 
-pub fn judge<R: Runtime>(rt: &R, wanted: Outputs, out: &[u8], err: &[u8]) -> Result<(), Fail> {
+pub(crate) fn judge<R: Runtime>(
+    rt: &R,
+    wanted: Outputs,
+    out: &[u8],
+    err: &[u8],
+) -> Result<(), Fail> {
     match wanted {
         Outputs::Printed => print_outputs(rt, out, err),
         Outputs::RefusedLock => expect(out.is_empty() && err == REFUSED_LOCK, "a lock is refused"),
@@ -44,7 +49,7 @@ fn print_outputs<R: Runtime>(rt: &R, out: &[u8], err: &[u8]) -> Result<(), Fail>
 }
 
 /// Prints bytes under a name, between bars, where there are any.
-pub fn print_bytes<R: Runtime>(rt: &R, name: &str, bytes: &[u8]) -> Result<(), Fail> {
+pub(crate) fn print_bytes<R: Runtime>(rt: &R, name: &str, bytes: &[u8]) -> Result<(), Fail> {
     if bytes.is_empty() {
         return Ok(());
     }
@@ -55,7 +60,7 @@ pub fn print_bytes<R: Runtime>(rt: &R, name: &str, bytes: &[u8]) -> Result<(), F
 }
 
 /// Fails where what has to be isn't.
-pub fn expect(is: bool, what: &str) -> Result<(), Fail> {
+pub(crate) fn expect(is: bool, what: &str) -> Result<(), Fail> {
     if is {
         return Ok(());
     }

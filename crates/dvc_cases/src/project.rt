@@ -6,23 +6,28 @@ use std::fs;
 use std::rt::Runtime;
 use std::test::Fail;
 
-pub type Project = SimWorld<Pipe>;
+pub(crate) type Project = SimWorld<Pipe>;
 
 /// A project that holds `in` alone.
-pub fn new_project(alloc: Global) -> Result<Project, Fail> {
+pub(crate) fn new_project(alloc: Global) -> Result<Project, Fail> {
     let mut project = SimWorld::new(alloc, Tree::new(alloc))?;
     put(alloc, &mut project, "in", b"abc")?;
     Ok(project)
 }
 
 /// Puts a file.
-pub fn put(alloc: Global, project: &mut Project, path: &str, text: &[u8]) -> Result<(), Fail> {
+pub(crate) fn put(
+    alloc: Global,
+    project: &mut Project,
+    path: &str,
+    text: &[u8],
+) -> Result<(), Fail> {
     let value = Value::File(Bytes::of(alloc, text)?);
     edit(alloc, project, path, &value)
 }
 
 /// Puts the text of a file of this program's folder.
-pub fn load<R: Runtime>(
+pub(crate) fn load<R: Runtime>(
     rt: &R,
     alloc: Global,
     project: &mut Project,
@@ -34,7 +39,7 @@ pub fn load<R: Runtime>(
 }
 
 /// Removes what stands at the path.
-pub fn remove(alloc: Global, project: &mut Project, path: &str) -> Result<(), Fail> {
+pub(crate) fn remove(alloc: Global, project: &mut Project, path: &str) -> Result<(), Fail> {
     edit(alloc, project, path, &Value::Nothing)
 }
 
@@ -48,12 +53,12 @@ fn edit(alloc: Global, project: &mut Project, path: &str, value: &Value) -> Resu
 }
 
 /// The path from the root.
-pub fn path_of(alloc: Global, text: &str) -> Result<Rel, Fail> {
+pub(crate) fn path_of(alloc: Global, text: &str) -> Result<Rel, Fail> {
     Ok(Rel::root(alloc).join(alloc, text)?)
 }
 
 /// The words of a command line.
-pub fn words_of(alloc: Global, line: &str) -> Result<Texts, Fail> {
+pub(crate) fn words_of(alloc: Global, line: &str) -> Result<Texts, Fail> {
     let mut words = Texts::new(alloc);
     for word in line.split_whitespace() {
         words.push(Text::of(alloc, word)?)?;
@@ -62,6 +67,6 @@ pub fn words_of(alloc: Global, line: &str) -> Result<Texts, Fail> {
 }
 
 /// How many jobs have run in the project.
-pub fn jobs_of(project: &Project) -> usize {
+pub(crate) fn jobs_of(project: &Project) -> usize {
     project.jobs().as_slice().len()
 }

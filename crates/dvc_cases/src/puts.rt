@@ -11,7 +11,7 @@ use std::test::Fail;
 const MANY: u32 = 20;
 
 /// Lets each put of the output fail, and then each of the error output.
-pub fn play_all<R: Runtime>(rt: &R, alloc: Global) -> Result<(), Fail> {
+pub(crate) fn play_all<R: Runtime>(rt: &R, alloc: Global) -> Result<(), Fail> {
     let words = words_of(alloc, "repro")?;
     play_outputs(rt, alloc, &words)?;
     rt.println("each failing put of the output is told, and nothing has run")?;

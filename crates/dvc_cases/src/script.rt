@@ -9,7 +9,7 @@ use std::rt::Runtime;
 use std::test::Fail;
 
 /// Plays each case, and prints its lines with what they came to.
-pub fn play_all<R: Runtime>(rt: &R, alloc: Global) -> Result<(), Fail> {
+pub(crate) fn play_all<R: Runtime>(rt: &R, alloc: Global) -> Result<(), Fail> {
     let text = fs::read_to_string(rt, "cases")?;
     for case in text.as_str().split("\n\n") {
         play(rt, alloc, case)?;

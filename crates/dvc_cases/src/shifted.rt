@@ -11,7 +11,7 @@ use world_api::{Exit, Files, Ground, Job, Kind, ReadFiles, Shell, World};
 
 /// What a file's size was, when it was looked at.
 #[derive(Clone, Copy)]
-pub enum Shift {
+pub(crate) enum Shift {
     /// A byte more than are read.
     Longer,
     /// A byte fewer.
@@ -21,14 +21,14 @@ pub enum Shift {
 /// The files of a project, of which one has another size than it is told to have. It tells nothing, and holds on to each
 /// file whatever is done.
 #[derive(Drop)]
-pub struct Shifted {
+pub(crate) struct Shifted {
     project: Project,
     path: Rel,
     shift: Shift,
 }
 
 impl Shifted {
-    pub fn new(project: Project, path: Rel, shift: Shift) -> Shifted {
+    pub(crate) fn new(project: Project, path: Rel, shift: Shift) -> Shifted {
         Shifted {
             project,
             path,

@@ -9,7 +9,7 @@ use std::rt::Runtime;
 use std::test::Fail;
 
 /// Plays a `repro` for each file that it reads and each way in which that changes.
-pub fn play_all<R: Runtime>(rt: &R, alloc: Global) -> Result<(), Fail> {
+pub(crate) fn play_all<R: Runtime>(rt: &R, alloc: Global) -> Result<(), Fail> {
     let words = words_of(alloc, "repro")?;
     for path in ["dvc.yaml", "dvc.lock", "in", "out"] {
         rt.println(format_args!("{path} is shorter when it is read"))?;

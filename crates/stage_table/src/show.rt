@@ -3,7 +3,7 @@ use dvc_base::{NoMemory, Text, Writer};
 use template_expand::{ExpandFault, Out, ParamWant, Stage};
 
 /// Puts the stages, each with what it says; `none` where there is none.
-pub fn show_stages(out: &mut Writer, stages: &[Stage]) -> Result<(), NoMemory> {
+pub(crate) fn show_stages(out: &mut Writer, stages: &[Stage]) -> Result<(), NoMemory> {
     if stages.is_empty() {
         return out.put(b"none");
     }
@@ -92,7 +92,7 @@ fn show_flag(out: &mut Writer, flag: bool, word: &str) -> Result<(), NoMemory> {
 }
 
 /// Puts a refusal with what it carries.
-pub fn show_fault(out: &mut Writer, fault: &ExpandFault) -> Result<(), NoMemory> {
+pub(crate) fn show_fault(out: &mut Writer, fault: &ExpandFault) -> Result<(), NoMemory> {
     match fault {
         ExpandFault::Schema { key } => put_quoted(out, "schema '", key.as_str()),
         ExpandFault::Unsupported { key } => put_quoted(out, "unsupported '", key.as_str()),

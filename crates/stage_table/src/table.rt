@@ -11,7 +11,7 @@ use yaml_profile::parse;
 const MAX_LEN: usize = 1 << 24;
 
 /// The table, with an outcome behind each row.
-pub fn outcomes(alloc: Global, table: &[u8]) -> Result<Writer, NoMemory> {
+pub(crate) fn outcomes(alloc: Global, table: &[u8]) -> Result<Writer, NoMemory> {
     let mut out = Writer::new(alloc);
     let lines = table.strip_suffix(b"\n".as_slice()).unwrap_or(table);
     for line in lines.split(|byte| *byte == b'\n') {

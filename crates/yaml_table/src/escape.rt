@@ -5,7 +5,7 @@ use dvc_base::NoMemory;
 use std::alloc::Global;
 
 /// The bytes that a row stands for.
-pub fn unescape(alloc: Global, row: &[u8]) -> Result<Vec<u8>, NoMemory> {
+pub(crate) fn unescape(alloc: Global, row: &[u8]) -> Result<Vec<u8>, NoMemory> {
     let mut bytes = Vec::with_capacity(alloc, row.len())?;
     let mut rest = row;
     while let [first, behind @ ..] = rest {
@@ -43,7 +43,7 @@ fn digit(byte: u8) -> u8 {
 }
 
 /// Adds bytes as a row has them.
-pub fn push_escaped(out: &mut Vec<u8>, bytes: &[u8]) -> Result<(), NoMemory> {
+pub(crate) fn push_escaped(out: &mut Vec<u8>, bytes: &[u8]) -> Result<(), NoMemory> {
     for byte in bytes {
         push_byte(out, *byte)?;
     }

@@ -5,7 +5,7 @@ use yaml_profile::{Node, Pair, YamlFault};
 
 /// Adds a node in short.
 #[cycle(show)]
-pub fn show(out: &mut Vec<u8>, node: &Node) -> Result<(), NoMemory> {
+pub(crate) fn show(out: &mut Vec<u8>, node: &Node) -> Result<(), NoMemory> {
     match node {
         Node::Null => push(out, "null"),
         Node::Bool(true) => push(out, "true"),
@@ -50,7 +50,11 @@ fn push_comma(out: &mut Vec<u8>, at: usize) -> Result<(), NoMemory> {
 }
 
 /// Adds a fault and its line.
-pub fn show_fault(alloc: Global, out: &mut Vec<u8>, fault: YamlFault) -> Result<(), NoMemory> {
+pub(crate) fn show_fault(
+    alloc: Global,
+    out: &mut Vec<u8>,
+    fault: YamlFault,
+) -> Result<(), NoMemory> {
     let (name, line) = match fault {
         YamlFault::Syntax { line } => ("syntax", line),
         YamlFault::Duplicate { line } => ("duplicate", line),
@@ -63,7 +67,7 @@ pub fn show_fault(alloc: Global, out: &mut Vec<u8>, fault: YamlFault) -> Result<
 }
 
 /// Adds a text.
-pub fn push(out: &mut Vec<u8>, text: &str) -> Result<(), NoMemory> {
+pub(crate) fn push(out: &mut Vec<u8>, text: &str) -> Result<(), NoMemory> {
     out.extend_from_slice(text.as_bytes())?;
     Ok(())
 }

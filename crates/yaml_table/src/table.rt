@@ -12,7 +12,7 @@ use yaml_profile::{Node, YamlFault, parse, print};
 const MAX_LEN: usize = 1 << 24;
 
 /// The table, with an outcome behind each row.
-pub fn outcomes(alloc: Global, table: &[u8]) -> Result<Vec<u8>, NoMemory> {
+pub(crate) fn outcomes(alloc: Global, table: &[u8]) -> Result<Vec<u8>, NoMemory> {
     let mut out = Vec::new(alloc);
     let lines = table.strip_suffix(b"\n".as_slice()).unwrap_or(table);
     for line in lines.split(|byte| *byte == b'\n') {
