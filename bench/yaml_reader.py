@@ -6,20 +6,15 @@ stages is read beside PyYAML's C loader, in the same run; hostile texts are read
 the times tell whether they grow with the length alone. A run that ends neither well nor with the text's fault ends the script.
 """
 import os
-import subprocess
 import sys
 import tempfile
 
 sys.path.insert(0, os.path.join(os.path.dirname(os.path.abspath(__file__)), "..", "checks"))
-from common import MIB, YAML_DUMP, entry, lock, need_built, seconds, write  # noqa: E402
+from common import MIB, YAML_DUMP, entry, lock, memory, need_built, seconds, write  # noqa: E402
 
 LOAD = "import sys, yaml; yaml.load(open(sys.argv[1], 'rb').read(), Loader=yaml.CSafeLoader)"
 # What `yaml_dump` ends with: a text that has a node, and one that has a fault.
 READ, REFUSED = 0, 2
-MEMORY = (
-    "import resource, subprocess, sys; subprocess.run(sys.argv[1:], stdout=subprocess.DEVNULL, check=True); "
-    "print(resource.getrusage(resource.RUSAGE_CHILDREN).ru_maxrss)"
-)
 
 HOSTILE = {
     "open brackets": lambda length: b"[" * length,
@@ -42,12 +37,6 @@ def long_lock(count):
     """A lock of so many stages."""
     deps, outs = {"data/in": b"input"}, {"models/out": b"output"}
     return lock(entry(f"stage{number}", f"python train.py --seed {number}", deps, outs) for number in range(count)).encode()
-
-
-def memory(words, folder):
-    """The most memory of a run, in bytes, told by a process of its own that has no other child."""
-    done = subprocess.run([sys.executable, "-c", MEMORY, *words], cwd=folder, capture_output=True, check=True)
-    return int(done.stdout) * 1024
 
 
 def locks(words, folder):

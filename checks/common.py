@@ -1,18 +1,21 @@
 """What the checks and the measurements share: the programs, small projects and their files, and how a check ends.
 
-The programs are those that `rt ci` or `./demo` leaves in this clone; the environment variables DVC and YAML_DUMP name
-others. Under CI=true nothing is passed over: a check that lacks a tool fails.
+The programs are those that `rt ci` or `./demo` leaves in this clone; the environment variables DVC, YAML_DUMP, RECORD_TABLE and
+STAGE_TABLE name others. Under CI=true nothing is passed over: a check that lacks a tool fails.
 """
 import hashlib
 import os
 import shutil
 import stat
 import subprocess
+import sys
 import time
 from dataclasses import dataclass
 
 TOP = os.path.dirname(os.path.dirname(os.path.abspath(__file__)))
 MIB = 1 << 20
+# A folder in memory is as good as one on a disk where nothing is measured, and faster.
+ROOM = "/dev/shm" if os.access("/dev/shm", os.W_OK) else None
 
 
 def built(variable, crate):
@@ -22,6 +25,8 @@ def built(variable, crate):
 
 DVC = built("DVC", "dvc")
 YAML_DUMP = built("YAML_DUMP", "yaml_dump")
+RECORD_TABLE = built("RECORD_TABLE", "record_table")
+STAGE_TABLE = built("STAGE_TABLE", "stage_table")
 
 
 def need_built(program):
@@ -68,9 +73,9 @@ def stages(*texts):
     return "stages:\n" + "".join(texts)
 
 
-def runs(name, command):
+def runs(name, *commands):
     """The lines that tell a run."""
-    return f"Running stage '{name}':\n> {command}\n"
+    return f"Running stage '{name}':\n" + "".join(f"> {command}\n" for command in commands)
 
 
 def skips(name):
@@ -79,8 +84,9 @@ def skips(name):
 
 
 def entry(name, command, deps, outs):
-    """The lines of one stage in `dvc.lock`, by the contents of its dependencies and outputs."""
-    lines = [f"  {name}:\n    cmd: {command}\n"]
+    """The lines of one stage in `dvc.lock`, by its command, or a list of them, and the contents of its dependencies and outputs."""
+    listed = isinstance(command, list)
+    lines = [f"  {name}:\n    cmd:" + "".join(f"\n    - {one}" for one in command) if listed else f"  {name}:\n    cmd: {command}", "\n"]
     for key, paths in (("deps", deps), ("outs", outs)):
         lines.append(f"    {key}:\n")
         for path, content in sorted(paths.items()):
@@ -152,6 +158,26 @@ def planted(folder):
     return tree
 
 
+def another_user():
+    """How a program is run as a user whom permissions bind, or none where that can't be."""
+    if os.geteuid():
+        return {}
+    nobody = {"user": 65_534, "group": 65_534, "extra_groups": []}
+    try:
+        subprocess.run(["true"], check=True, **nobody)
+    except (OSError, subprocess.SubprocessError):
+        return None
+    return nobody
+
+
+def reached(room):
+    """The program `dvc`, copied into a folder, where everybody may reach it."""
+    program = os.path.join(room, "dvc")
+    shutil.copyfile(DVC, program)
+    os.chmod(program, 0o755)
+    return program
+
+
 def repro(folder, words=("repro",), program=DVC, **how):
     """Runs the program in the folder: its status, and what it put on its output and its error output."""
     how = {"stdout": subprocess.PIPE, "stderr": subprocess.PIPE, **how}
@@ -169,3 +195,18 @@ def seconds(words, folder, statuses=(0,)):
         told = done.stderr.decode(errors="replace")
         raise SystemExit(f"{shown(' '.join(words))} ended with {done.returncode}: {shown(told)}")
     return taken
+
+
+# It tells the status and the most memory of a run, in a process of its own that has no other child.
+MEASURED = (
+    "import resource, subprocess, sys; status = subprocess.run(sys.argv[1:], stdout=subprocess.DEVNULL).returncode; "
+    "print(status, resource.getrusage(resource.RUSAGE_CHILDREN).ru_maxrss)"
+)
+
+
+def memory(words, folder):
+    """The most memory of a run that ends well, in bytes; another status ends the script."""
+    done = subprocess.run([sys.executable, "-c", MEASURED, *words], cwd=folder, capture_output=True, check=True)
+    status, most = done.stdout.split()
+    expect(f"the status of {shown(' '.join(words))}", int(status), 0)
+    return int(most) * 1024

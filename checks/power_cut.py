@@ -17,12 +17,10 @@ import tempfile
 import time
 from dataclasses import dataclass, field
 
-from common import DVC, Link, entry, expect, has_tool, lock, need_built, plant, planted, repro, stage, stages
+from common import DVC, ROOM, Link, entry, expect, has_tool, lock, need_built, plant, planted, repro, stage, stages
 from recorder import Change, record
 from stated_disk import Disk
 
-# A folder in memory is as good as one on a disk here, and faster.
-ROOM = "/dev/shm" if os.access("/dev/shm", os.W_OK) else None
 LOCK = "dvc.lock"
 
 

@@ -21,8 +21,8 @@ import termios
 import time
 
 from common import (
-    DVC, MIB, entry, expect, has_tool, lock, need_built, passed_over, path_entry, plant, planted, read, repro, runs, shown,
-    skips, stage, stages, write,
+    DVC, MIB, another_user, entry, expect, has_tool, lock, need_built, passed_over, path_entry, plant, planted, reached, read,
+    repro, runs, shown, skips, stage, stages, write,
 )
 
 FIRST = stage("first", "cp in mid", ["in"], ["mid"])
@@ -88,22 +88,27 @@ def untouched(what, tree, wanted, **how):
 
 
 def refusals():
-    """Files that aren't read: nothing is touched."""
-    good = lock([old_entry()])
+    """Files that are refused: nothing is touched. What else is refused, and with what words, is tried by texts.py."""
+    good, many = lock([old_entry()]), long_lock()
+    not_built = "'dvc.yaml' is not supported yet"
     bad = {
         "dvc.yaml": [
-            stages(FIRST, FIRST), stages(FIRST, stage("last", "cp in mid", ["in"], ["mid"])),
-            stages(stage("last", "cp mid out", ["mid"], ["out"]), FIRST), COPY[:-1], bytes(range(256)),
+            (stages(FIRST, FIRST), "'dvc.yaml' line 8: duplicate key"),
+            (stages(FIRST, stage("last", "cp in mid", ["in"], ["mid"])), not_built),
+            (stages(stage("last", "cp mid out", ["mid"], ["out"]), FIRST), not_built),
+            (bytes(range(256)), "'dvc.yaml' line 1: syntax"),
         ],
         "dvc.lock": [
-            "", good[:-1], good.replace("md5: 9", "md5: A"), lock([old_entry()] * 2), good * 2, bytes(range(256)) * 40_000,
-            long_lock()[:-1],
+            (good.replace("md5: 9", "md5: A"), "'dvc.lock': bad value at 'md5'"),
+            (lock([old_entry()] * 2), "'dvc.lock' line 15: duplicate key"),
+            (good * 2, "'dvc.lock' line 15: duplicate key"),
+            (bytes(range(256)) * 40_000, "'dvc.lock' line 1: syntax"),
+            (many[:many.rindex("size")], "'dvc.lock': bad value at 'size'"),
         ],
     }
-    for name, texts in bad.items():
-        for number, text in enumerate(texts):
-            told = f"ERROR: '{name}' is not supported yet\n"
-            untouched(f"bad {name} number {number}", {**DUE, name: text}, (255, "", told))
+    for name, rows in bad.items():
+        for number, (text, told) in enumerate(rows):
+            untouched(f"bad {name} number {number}", {**DUE, name: text}, (255, "", f"ERROR: {told}\n"))
 
 
 def long_lock():
@@ -175,8 +180,8 @@ def least_memory():
 
 def memory():
     """Want of memory is told, whenever it comes, and a run with enough of it ends well."""
-    yaml = stages(*(stage(f"s{number}", "cp in out", ["in"], [f"o{number}"]) for number in range(20_000)))
-    tree = {"in": b"abc", "dvc.yaml": yaml.replace("cp in out", "cp in in")}
+    yaml = stages(*(stage(f"s{number}", "cp in in", ["in"], [f"o{number}"]) for number in range(10_000)))
+    tree = {"in": b"abc", "dvc.yaml": yaml}
     least = least_memory()
     for most in range(least, least + 4 * MIB, MIB // 16):
         limit = limited(resource.RLIMIT_AS, most)
@@ -294,18 +299,6 @@ UNWRITABLE = {
 }
 
 
-def another_user():
-    """How a run is made as a user whom permissions bind, or none where that can't be."""
-    if os.geteuid():
-        return {}
-    nobody = {"user": 65_534, "group": 65_534, "extra_groups": []}
-    try:
-        subprocess.run(["true"], check=True, **nobody)
-    except (OSError, subprocess.SubprocessError):
-        return None
-    return nobody
-
-
 def forbidden():
     """What a user may not touch is told, before the command has run; a skip writes nothing."""
     user = another_user()
@@ -336,14 +329,6 @@ def given_to(user, room, tree):
         for path in (".", *tree):
             os.chown(os.path.join(folder, path), user["user"], user["group"])
     return folder
-
-
-def reached(room):
-    """The program, where everybody may reach it."""
-    program = os.path.join(room, "dvc")
-    shutil.copyfile(DVC, program)
-    os.chmod(program, 0o755)
-    return program
 
 
 def stays_as_it_was(what, script, user):

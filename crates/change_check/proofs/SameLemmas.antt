@@ -1,13 +1,17 @@
--- Two entries are the same exactly where they are equal.
-use Rattle.std.proofs.Common.{◌≡◌, ℕ, Bool, true, false, ◌&&◌, List, refl, sym, ap, subst, ◌∙◌, Option, Some, None, Decides, eqb}
+-- Two entries are the same exactly where they are equal and have no parameters.
+--     entry_same, entry_params     what is the same
+--     entry_itself, entry_found    and where it is
+use Rattle.std.proofs.Common.{◌≡◌, ℕ, Bool, true, false, ◌&&◌, List, [], length, refl, sym, ap, subst, ◌∙◌, Option, Some, None, Decides, eqb}
 use Rattle.std.specs.Prelude.{bytes_eq}
 use Rattle.std.specs.Cmp.Lexicographic.{pointwise}
 use Rattle.std.proofs.lemmas.Bool.{and_parts, and_from, false≢true, not-true, eqb-true, eq-eqb}
+use Rattle.std.proofs.lemmas.List.{nil_from_length}
 use Rattle.std.proofs.lemmas.Slice.Eq.{bytes_eq-Decides, slice_eq-Decides}
 use Rattle.dvc_base.specs.Name.{ObjectName}
+use Rattle.dvc_base.specs.declared.data.ParamFile.{ParamFile}
 use Rattle.lock_files.specs.declared.entry.Entry.{Entry}
 use Rattle.lock_files.specs.declared.entry.PathEntry.{PathEntry}
-use Rattle.change_check.specs.Same.{same_truth, same_count, same_path, same_entry}
+use Rattle.change_check.specs.Same.{same_truth, same_count, are_no_files, same_path, same_entry}
 
 pub bytes_same : (a b : List ℕ) → bytes_eq a b ≡ true → a ≡ b
 bytes_same a b e = (bytes_eq-Decides a b).0 e
@@ -70,21 +74,51 @@ texts-Decides a b = slice_eq-Decides bytes_eq-Decides a b (pointwise bytes_eq a 
 paths-Decides : (a b : List PathEntry) → Decides (pointwise same_path a b) (a ≡ b)
 paths-Decides a b = slice_eq-Decides same_path-Decides a b (pointwise same_path a b) refl
 
-entry_fields : (a b : List (List ℕ)) (c d e f : List PathEntry) → a ≡ b → c ≡ d → e ≡ f → ◌≡◌ {A = Entry} (record { commands = a; deps = c; outs = e }) (record { commands = b; deps = d; outs = f })
-entry_fields a b c d e f x y z =
-    ap (λ (w : List (List ℕ)). record { commands = w; deps = c; outs = e }) x ∙ ap (λ (w : List PathEntry). record { commands = b; deps = w; outs = e }) y ∙ ap (λ (w : List PathEntry). record { commands = b; deps = d; outs = w }) z
+entry_fields : (a b : List (List ℕ)) (c d e f : List PathEntry) (g h : List ParamFile) → a ≡ b → c ≡ d → e ≡ f → g ≡ h → ◌≡◌ {A = Entry} (record { commands = a; deps = c; params = g; outs = e }) (record { commands = b; deps = d; params = h; outs = f })
+entry_fields a b c d e f g h x y z w =
+    ap (λ (v : List (List ℕ)). record { commands = v; deps = c; params = g; outs = e }) x ∙ ap (λ (v : List PathEntry). record { commands = b; deps = v; params = g; outs = e }) y ∙ ap (λ (v : List PathEntry). record { commands = b; deps = d; params = g; outs = v }) z ∙ ap (λ (v : List ParamFile). record { commands = b; deps = d; params = v; outs = f }) w
 
-entry_same : (a b : Entry) → same_entry a b ≡ true → a ≡ b
+-- ---- parameters
+
+no_files : (fs : List ParamFile) → are_no_files fs ≡ true → fs ≡ []
+no_files fs e = nil_from_length fs (eqb-true (length fs) 0 e)
+
+pub entry_params : (a b : Entry) → same_entry a b ≡ true → (a.params ≡ []) × (b.params ≡ [])
+entry_params a b h =
+    let lists = pointwise bytes_eq a.commands b.commands && (pointwise same_path a.deps b.deps && pointwise same_path a.outs b.outs) in
+    let first = and_parts (are_no_files a.params) (are_no_files b.params && lists) h in
+    let next = and_parts (are_no_files b.params) lists first.1 in
+    (no_files a.params first.0, no_files b.params next.0)
+
+-- ---- entries
+
+entry_lists : (a b : Entry) → same_entry a b ≡ true → (pointwise bytes_eq a.commands b.commands && (pointwise same_path a.deps b.deps && pointwise same_path a.outs b.outs)) ≡ true
+entry_lists a b h =
+    let lists = pointwise bytes_eq a.commands b.commands && (pointwise same_path a.deps b.deps && pointwise same_path a.outs b.outs) in
+    let first = and_parts (are_no_files a.params) (are_no_files b.params && lists) h in
+    (and_parts (are_no_files b.params) lists first.1).1
+
+pub entry_same : (a b : Entry) → same_entry a b ≡ true → a ≡ b
 entry_same a b h =
     let deps = pointwise same_path a.deps b.deps in
     let outs = pointwise same_path a.outs b.outs in
-    let first = and_parts (pointwise bytes_eq a.commands b.commands) (deps && outs) h in
+    let first = and_parts (pointwise bytes_eq a.commands b.commands) (deps && outs) (entry_lists a b h) in
     let last = and_parts deps outs first.1 in
-    entry_fields a.commands b.commands a.deps b.deps a.outs b.outs ((texts-Decides a.commands b.commands).0 first.0) ((paths-Decides a.deps b.deps).0 last.0) ((paths-Decides a.outs b.outs).0 last.1)
+    let none = entry_params a b h in
+    entry_fields a.commands b.commands a.deps b.deps a.outs b.outs a.params b.params ((texts-Decides a.commands b.commands).0 first.0) ((paths-Decides a.deps b.deps).0 last.0) ((paths-Decides a.outs b.outs).0 last.1) (none.0 ∙ sym none.1)
 
-entry_itself : (a : Entry) → same_entry a a ≡ true
-entry_itself a =
-    and_from (pointwise bytes_eq a.commands a.commands) (pointwise same_path a.deps a.deps && pointwise same_path a.outs a.outs) ((texts-Decides a.commands a.commands).1 refl) (and_from (pointwise same_path a.deps a.deps) (pointwise same_path a.outs a.outs) ((paths-Decides a.deps a.deps).1 refl) ((paths-Decides a.outs a.outs).1 refl))
+none_here : (fs : List ParamFile) → fs ≡ [] → are_no_files fs ≡ true
+none_here fs e = ap are_no_files e
 
-pub same_entry-Decides : (a b : Entry) → Decides (same_entry a b) (a ≡ b)
-same_entry-Decides a b = (entry_same a b, λ e. subst (λ (x : Entry). same_entry a x ≡ true) e (entry_itself a))
+pub entry_itself : (a : Entry) → a.params ≡ [] → same_entry a a ≡ true
+entry_itself a none =
+    let commands = pointwise bytes_eq a.commands a.commands in
+    let deps = pointwise same_path a.deps a.deps in
+    let outs = pointwise same_path a.outs a.outs in
+    let free = none_here a.params none in
+    let paths = and_from deps outs ((paths-Decides a.deps a.deps).1 refl) ((paths-Decides a.outs a.outs).1 refl) in
+    let lists = and_from commands (deps && outs) ((texts-Decides a.commands a.commands).1 refl) paths in
+    and_from (are_no_files a.params) (are_no_files a.params && (commands && (deps && outs))) free (and_from (are_no_files a.params) (commands && (deps && outs)) free lists)
+
+pub entry_found : (a b : Entry) → a ≡ b → a.params ≡ [] → same_entry a b ≡ true
+entry_found a b e none = subst (λ (x : Entry). same_entry a x ≡ true) e (entry_itself a none)

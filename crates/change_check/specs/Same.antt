@@ -1,7 +1,8 @@
 -- Entries that are the same.
---     same_entry a b     the same commands, and the same paths with the same names and sizes
-use Rattle.std.specs.Prelude.{ℕ, Bool, true, false, ◌&&◌, not, Option, Some, None, bytes_eq, ◌==◌}
+--     same_entry a b     the same commands, and the same paths with the same names and sizes; never where one has parameters
+use Rattle.std.specs.Prelude.{ℕ, Bool, true, false, ◌&&◌, not, List, length, Option, Some, None, bytes_eq, ◌==◌}
 use Rattle.std.specs.Cmp.Lexicographic.{pointwise}
+use Rattle.dvc_base.specs.declared.data.ParamFile.{ParamFile}
 use Rattle.lock_files.specs.declared.entry.Entry.{Entry}
 use Rattle.lock_files.specs.declared.entry.PathEntry.{PathEntry}
 
@@ -22,7 +23,13 @@ same_path a b =
     && (same_truth a.name.dir b.name.dir
     && ((a.size == b.size) && same_count a.nfiles b.nfiles)))
 
+abbrev pub are_no_files : List ParamFile → Bool
+are_no_files files = length files == 0
+
+-- parameters aren't compared yet, so an entry that has some is the same as none
 abbrev pub same_entry : Entry → Entry → Bool
 same_entry a b =
-    pointwise bytes_eq a.commands b.commands
-    && (pointwise same_path a.deps b.deps && pointwise same_path a.outs b.outs)
+    are_no_files a.params
+    && (are_no_files b.params
+    && (pointwise bytes_eq a.commands b.commands
+    && (pointwise same_path a.deps b.deps && pointwise same_path a.outs b.outs)))

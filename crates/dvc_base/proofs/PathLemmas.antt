@@ -1,11 +1,10 @@
--- Laws of paths: of `under`, `overlap`, `is_within`, `joined`, `walk`, `join` and `reached`.
-use Rattle.std.proofs.Common.{◌≡◌, ℕ, ◌+◌, ◌<◌, ◌≤◌, true, false, ◌⊎◌, ◌==◌, List, [], ◌∷◌, ◌++◌, length, take, drop, get_or, nat_lt, refl, sym, ap, ◌∙◌, inl, inr, arith, append_assoc, bytes_eq, Some, None, Ok, Err, option_and_then, slice_index}
+-- Laws of paths: of `under`, `overlap`, `joined`, `walk`, `join` and `reached`.
+use Rattle.std.proofs.Common.{◌≡◌, ℕ, ◌+◌, ◌<◌, ◌≤◌, true, false, ◌==◌, List, [], ◌∷◌, ◌++◌, length, take, drop, get_or, refl, sym, ap, ◌∙◌, arith, append_assoc, bytes_eq, Some, None, Ok, Err, option_and_then, slice_index}
 use Rattle.std.specs.List.{list_any, slice_split}
-use Rattle.std.proofs.lemmas.Bool.{and_parts, and_from, or_left, or_right, and_right, cases_lt, false≢true, ltb-true, lt-ltb, le-ltb}
-use Rattle.std.proofs.Math.Bool.{or_comm}
+use Rattle.std.proofs.lemmas.Bool.{and_parts, and_from, or_right, false≢true, lt-ltb, le-ltb}
 use Rattle.std.proofs.lemmas.List.{drop_more, take_more, take-append-drop, length-take-le}
 use Rattle.std.proofs.lemmas.Slice.Eq.{bytes_eq-Decides}
-use Rattle.dvc_base.specs.Path.{Path, under, overlap, is_within, joined}
+use Rattle.dvc_base.specs.Path.{Path, under, overlap, joined}
 use Rattle.dvc_base.specs.Join.{step, walk, reached, join}
 use Rattle.dvc_base.specs.declared.path.PathFault.TheVariants.{TooLong}
 
@@ -75,41 +74,6 @@ under-overlap (c ∷ a) (d ∷ b) (e ∷ p) x y =
     let t : bytes_eq d c ≡ true = (bytes_eq-Decides d c).1 (sym f) in
     let o = under-overlap a b p v.1 w.1 in
     grind arith
-
-pub overlap-comm : (p q : Path) → overlap p q ≡ overlap q p
-overlap-comm p q = or_comm (under p q) (under q p)
-
-pub overlap-refl : (p : Path) → overlap p p ≡ true
-overlap-refl p = or_left (under p p) (under p p) (under-refl p)
-
--- ---- `is_within`
-
-pub is_within-parts : (p q : Path) → is_within p q ≡ true → (under q p ≡ true) × (length q < length p)
-is_within-parts p q h =
-    let x = and_parts (under q p) (nat_lt (length q) (length p)) h in
-    (x.0, ltb-true (length q) (length p) x.1)
-
-pub is_within-from : (p q : Path) → under q p ≡ true → length q < length p → is_within p q ≡ true
-is_within-from p q a b =
-    and_from (under q p) (nat_lt (length q) (length p)) a (lt-ltb (length q) (length p) b)
-
-pub is_within-irrefl : (p : Path) → is_within p p ≡ false
-is_within-irrefl p =
-    and_right (under p p) (nat_lt (length p) (length p)) (le-ltb (length p) (length p) (omega arith))
-
-pub is_within-trans : (p q r : Path) → is_within p q ≡ true → is_within q r ≡ true → is_within p r ≡ true
-is_within-trans p q r a b =
-    let x = is_within-parts p q a in
-    let y = is_within-parts q r b in
-    is_within-from p r (under-trans r q p y.0 x.0) (omega arith)
-
--- a path that is q or lies below it is q or lies within it
-pub under-cases : (q p : Path) → under q p ≡ true → (q ≡ p) ⊎ (is_within p q ≡ true)
-under-cases q p h =
-    elim (cases_lt (length q) (length p)) [
-      | inl s ↦ inr (is_within-from p q h s)
-      | inr s ↦ let t = under-length q p h in inl (under-same_length q p h (omega arith))
-    ]
 
 -- ---- `joined`
 

@@ -56,9 +56,6 @@ pub record Wording : Type 0 where
 abbrev pub spelled : Wording → List ℕ
 spelled w = w.start ++ (w.first ++ (w.second ++ (w.middle ++ (w.third ++ (w.last ++ w.end)))))
 
-abbrev pub words_in : Wording → List (List ℕ)
-words_in w = w.start ∷ w.second ∷ w.third ∷ w.end ∷ []
-
 -- words with three values between them, with two, with one, and alone
 abbrev pub with_three : List ℕ → List ℕ → List ℕ → List ℕ → List ℕ → List ℕ → List ℕ → Wording
 with_three a x b y c z d = record { start = a; first = x; second = b; middle = y; third = c; last = z; end = d }

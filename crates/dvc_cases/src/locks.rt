@@ -1,4 +1,4 @@
-// Locks that were cut or spoilt: each is refused, with all as it was.
+// Locks that were cut or spoilt: none is taken for the whole one. It is refused, with all as it was, or the stage runs.
 use crate::call::{FailingPuts, perform};
 use crate::outputs::{Outputs, expect};
 use crate::project::{Project, jobs_of, load, new_project, path_of, put, words_of};
@@ -17,19 +17,20 @@ pub(crate) fn play_all<R: Runtime>(rt: &R, alloc: Global) -> Result<(), Fail> {
 fn play_with<R: Runtime>(rt: &R, alloc: Global, words: &Texts) -> Result<(), Fail> {
     let text = fs::read_to_string(rt, "copy.lock")?;
     let lock = text.as_str().as_bytes();
-    for end in 0..lock.len() {
-        refuses(rt, alloc, words, &lock[..end])?;
+    // The last line feed alone can be left out.
+    for end in 0..lock.len().saturating_sub(1) {
+        doubts(rt, alloc, words, &lock[..end])?;
     }
-    rt.println("each lock that was cut is refused")?;
+    rt.println("no lock that was cut is taken for the whole one")?;
     for place in 0..lock.len() {
-        refuses_spoilt(rt, alloc, words, lock, place)?;
+        doubts_spoilt(rt, alloc, words, lock, place)?;
     }
-    rt.println("each lock with a spoilt byte is refused")?;
+    rt.println("no lock with a spoilt byte is taken for the whole one")?;
     Ok(())
 }
 
 // A byte that stands nowhere in a lock takes the place of one.
-fn refuses_spoilt<R: Runtime>(
+fn doubts_spoilt<R: Runtime>(
     rt: &R,
     alloc: Global,
     words: &Texts,
@@ -40,15 +41,15 @@ fn refuses_spoilt<R: Runtime>(
     if let Some(byte) = spoilt.get_mut(place) {
         *byte = b'~';
     }
-    refuses(rt, alloc, words, spoilt.as_slice())
+    doubts(rt, alloc, words, spoilt.as_slice())
 }
 
-fn refuses<R: Runtime>(rt: &R, alloc: Global, words: &Texts, lock: &[u8]) -> Result<(), Fail> {
+fn doubts<R: Runtime>(rt: &R, alloc: Global, words: &Texts, lock: &[u8]) -> Result<(), Fail> {
     let mut project = new_project(alloc)?;
-    refuses_in(rt, alloc, words, lock, &mut project)
+    doubts_in(rt, alloc, words, lock, &mut project)
 }
 
-fn refuses_in<R: Runtime>(
+fn doubts_in<R: Runtime>(
     rt: &R,
     alloc: Global,
     words: &Texts,
@@ -56,13 +57,15 @@ fn refuses_in<R: Runtime>(
     project: &mut Project,
 ) -> Result<(), Fail> {
     load(rt, alloc, project, "dvc.yaml", "copy.yaml")?;
-    put(alloc, project, "out", b"old")?;
+    put(alloc, project, "out", b"abc")?;
     put(alloc, project, "dvc.lock", lock)?;
     let puts = FailingPuts::NONE;
-    let end = perform(rt, alloc, words, project, puts, Outputs::RefusedLock)?;
-    expect(end.status == 255 && !end.is_ok, "a lock is refused")?;
+    let end = perform(rt, alloc, words, project, puts, Outputs::NoSkip)?;
+    if end.is_ok {
+        return expect(jobs_of(project) == 1, "the stage runs");
+    }
     expect(jobs_of(project) == 0, "nothing has run")?;
-    stands(alloc, project, "out", b"old")?;
+    stands(alloc, project, "out", b"abc")?;
     stands(alloc, project, "dvc.lock", lock)
 }
 

@@ -4,7 +4,7 @@ use std::io::Write;
 use std::rt::Runtime;
 use std::test::Fail;
 
-const REFUSED_LOCK: &[u8] = b"ERROR: 'dvc.lock' is not supported yet\n";
+const REFUSED_LOCK: &[u8] = b"ERROR: 'dvc.lock'";
 
 const LINES: &[u8] = b"Running stage 'copy':\n> cat in\n";
 
@@ -17,8 +17,8 @@ const COMMAND_FAULT: &[u8] = b"ERROR: stage 'copy' failed with 3\n";
 pub(crate) enum Outputs {
     /// Anything, which is printed.
     Printed,
-    /// The refusal of a lock, and nothing else.
-    RefusedLock,
+    /// The refusal of a lock, or the lines of the copy.
+    NoSkip,
     /// The lines of the copy, or a front of them and that the output can't be written.
     CopyLines,
     /// A front of the line that a command has failed, whatever the output took.
@@ -33,10 +33,14 @@ pub(crate) fn judge<R: Runtime>(
 ) -> Result<(), Fail> {
     match wanted {
         Outputs::Printed => print_outputs(rt, out, err),
-        Outputs::RefusedLock => expect(out.is_empty() && err == REFUSED_LOCK, "a lock is refused"),
+        Outputs::NoSkip => expect(is_no_skip(out, err), "a lock is refused, or the stage runs"),
         Outputs::CopyLines => expect(is_copy(out, err), "a failing put is told"),
         Outputs::FailedCommand => expect(COMMAND_FAULT.starts_with(err), "a command has failed"),
     }
+}
+
+fn is_no_skip(out: &[u8], err: &[u8]) -> bool {
+    (out.is_empty() && err.starts_with(REFUSED_LOCK)) || (out == LINES && err.is_empty())
 }
 
 fn is_copy(out: &[u8], err: &[u8]) -> bool {

@@ -1,6 +1,6 @@
 -- Answers of a command line, case by case.
 --     is_repro-words, words-is_repro      the test of the words and their equation are one
---     kind_apart, stops                   of what kind a fault isn't; what stops the reading of a workspace
+--     kind_apart, ends_reading                   of what kind a fault isn't; what stops the reading of a workspace
 --     refused_first, none_gained          a refusal that comes before any turn
 --     nothing_told                        no line is a front of the report of any stages
 use Rattle.std.proofs.Common.{◌≡◌, ℕ, Bool, true, false, not, ◌||◌, List, [], ◌∷◌, ◌++◌, Option, Some, None, IsTrue, ◌==◌, refl, sym, ap, ◌∙◌, subst, ◌⊎◌, inl, inr}
@@ -21,7 +21,7 @@ use Rattle.repro_laws.specs.declared.stage.Choice.{Choice}
 use Rattle.repro_laws.specs.declared.stage.Choice.TheVariants.{Run}
 use Rattle.repro_laws.proofs.GrowthLemmas.{front_none}
 use Rattle.dvc_cli.specs.Workspace.{read_kinds}
-use Rattle.dvc_cli.specs.Command.{is_repro, repro_words, stop_kinds}
+use Rattle.dvc_cli.specs.Command.{is_repro, repro_words, halt_kinds}
 
 -- ---- words
 
@@ -66,9 +66,9 @@ free_of fault (inl free) = free
 free_of fault (inr e) = absurd (fault_is_none fault e)
 
 -- where nothing is due to be refused, only want of memory and the world stop the reading
-pub stops : (fault : Fault) → MayBe read_kinds (Some fault) → IsAnswer (Some fault) None → MayBe stop_kinds (Some fault)
-stops fault read a =
-    one_of-both (k.NoMemory ∷ k.WorldFault ∷ k.OutFault ∷ []) read_kinds stop_kinds (kind_of fault) refl (free_of fault a) read
+pub ends_reading : (fault : Fault) → MayBe read_kinds (Some fault) → IsAnswer (Some fault) None → MayBe halt_kinds (Some fault)
+ends_reading fault read a =
+    one_of-both (k.NoMemory ∷ k.WorldFault ∷ k.OutFault ∷ []) read_kinds halt_kinds (kind_of fault) refl (free_of fault a) read
 
 -- ---- a refusal before any turn
 

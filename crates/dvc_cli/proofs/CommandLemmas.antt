@@ -3,7 +3,7 @@
 --     turned_..              its stages have had their turns
 --     IsWorkspaceOf          the words are those of a repro, and nothing of the tree is refused
 --     Turned                 what `repro` says, where the effect of commands is told
-use Rattle.std.proofs.Common.{◌≡◌, ℕ, Bool, true, false, List, [], ◌∷◌, ◌++◌, Option, Some, None, Result, Ok, Err, OnOk, IfErr, IfSome, IsSome, IsTrue, refl, sym, ap, ◌∙◌, subst, inl, inr}
+use Rattle.std.proofs.Common.{◌≡◌, ℕ, Bool, true, false, List, [], Option, Some, None, Result, Ok, Err, OnOk, IfErr, IfSome, IsSome, IsTrue, refl, sym, ap, ◌∙◌, subst, inl, inr}
 use Rattle.std.specs.List.{list_all}
 use Rattle.std.specs.Option.{option_map_or}
 use Rattle.std.proofs.lemmas.Bool.{cases_Bool, false≢true}
@@ -28,13 +28,14 @@ use Rattle.repro_laws.specs.Choices.{due, fault_of}
 use Rattle.repro_laws.specs.Turns.{standing}
 use Rattle.repro_laws.specs.Headline.{LeavesAnew}
 use Rattle.repro_laws.specs.Moments.{is_record, in_turns, InTurns}
-use Rattle.repro_laws.specs.Sound.{lock_of, IsSound, IsSafe, IsStopped, IsReport}
+use Rattle.repro_laws.specs.Sound.{lock_of, IsSound, AreReliable, AreHalted, IsReport}
 use Rattle.repro_laws.specs.declared.stage.Stage.{Stage}
 use Rattle.repro_laws.specs.declared.stage.Choice.{Choice}
 use Rattle.repro_laws.proofs.SoundLaw.{sound}
-use Rattle.dvc_cli.specs.Workspace.{stages_in, AreUsable, workspace_fault, Workspace, workspace_by, workspace_of, read_kinds}
+use Rattle.dvc_cli.specs.Plan.{AreUsable}
+use Rattle.dvc_cli.specs.Workspace.{stages_in, workspace_fault, Workspace, workspace_by, workspace_of, read_kinds}
 use Rattle.dvc_cli.specs.Command.{is_repro, repro_words, refusal, workspace_due, stages_due, fault_due, choices_due, IsReliable, Reproduces, IsHaltedIn, IsHalted, InWorkspace, InCommand, DoesCommand, Refuses, command_kinds, Answers, PutsReport}
-use Rattle.dvc_cli.proofs.AnswerLemmas.{words-is_repro, kind_apart, stops, refused_first, none_gained, nothing_told}
+use Rattle.dvc_cli.proofs.AnswerLemmas.{words-is_repro, kind_apart, ends_reading, refused_first, none_gained, nothing_told}
 
 pub any_effect : (o : Option Effect) (P : Effect → Type 0) → ((effect : Effect) → P effect) → IfSome o P
 any_effect None P all = tt
@@ -148,7 +149,7 @@ halted_in : (effect : Effect) (fault : Fault) (a : Option Fault) (stages : Optio
 halted_in effect fault (Some x) stages lock m read answer = refl
 halted_in effect fault None None lock m read answer = refl
 halted_in effect fault None (Some stages) None m read answer = refl
-halted_in effect fault None (Some stages) (Some lock) m read answer = inl (stops fault read answer, refl)
+halted_in effect fault None (Some stages) (Some lock) m read answer = inl (ends_reading fault read answer, refl)
 
 pub unread_refusal : (words : List (List ℕ)) (fault : Fault) (t : Tree) → is_repro words ≡ true → IsAnswer (Some fault) (workspace_fault t) → IsAnswer (Some fault) (refusal words t)
 unread_refusal words fault t e answer = subst (IsAnswer (Some fault)) (sym (repro_refusal words t e)) answer
@@ -179,28 +180,28 @@ pub record IsWorkspaceOf (words : List (List ℕ)) (t : Tree) (stages : List Sta
   pub remembered : lock_of t ≡ Some lock
 
 pub record Turned {A : Type 0} (effect : Effect) (stages : List Stage) (lock new_lock : Lock) (r : Result A Fault) (old new : History) : Type 0 where
-  pub headline : OnOk r (IsSafe effect stages lock old.present new.present → LeavesAnew is_record effect stages (standing (tree_of old) lock) (standing (tree_of new) new_lock))
-  pub answer : IsSafe effect stages lock old.present new.present → IsAnswer (fault_in r) (fault_of effect stages (tree_of old) lock)
-  pub ran : IsSafe effect stages lock old.present new.present → Gains (fault_in r) (jobs_of old) (jobs (due effect stages (tree_of old) lock)) (jobs_of new)
+  pub headline : OnOk r (AreReliable effect stages lock old.present new.present → LeavesAnew is_record effect stages (standing (tree_of old) lock) (standing (tree_of new) new_lock))
+  pub answer : AreReliable effect stages lock old.present new.present → IsAnswer (fault_in r) (fault_of effect stages (tree_of old) lock)
+  pub ran : AreReliable effect stages lock old.present new.present → Gains (fault_in r) (jobs_of old) (jobs (due effect stages (tree_of old) lock)) (jobs_of new)
   pub untouched : due effect stages (tree_of old) lock ≡ [] → new ≡ old
-  pub stopped : IfErr r (λ fault. IsStopped effect stages lock fault old.present new.present)
+  pub halted : IfErr r (λ fault. AreHalted effect stages lock fault old.present new.present)
   pub moments : Passes (InTurns effect stages lock old.present new.present) old new
 
 pub turned_at : {A : Type 0} (o : Option Effect) (stages : List Stage) (lock new_lock : Lock) (r : Result A Fault) (old new : History)
-    → OnOk r (IfSome o (λ effect. IsSafe effect stages lock old.present new.present → LeavesAnew is_record effect stages (standing (tree_of old) lock) (standing (tree_of new) new_lock)))
-    → IfSome o (λ effect. IsSafe effect stages lock old.present new.present → IsAnswer (fault_in r) (fault_of effect stages (tree_of old) lock))
-    → IfSome o (λ effect. IsSafe effect stages lock old.present new.present → Gains (fault_in r) (jobs_of old) (jobs (due effect stages (tree_of old) lock)) (jobs_of new))
+    → OnOk r (IfSome o (λ effect. AreReliable effect stages lock old.present new.present → LeavesAnew is_record effect stages (standing (tree_of old) lock) (standing (tree_of new) new_lock)))
+    → IfSome o (λ effect. AreReliable effect stages lock old.present new.present → IsAnswer (fault_in r) (fault_of effect stages (tree_of old) lock))
+    → IfSome o (λ effect. AreReliable effect stages lock old.present new.present → Gains (fault_in r) (jobs_of old) (jobs (due effect stages (tree_of old) lock)) (jobs_of new))
     → IfSome o (λ effect. due effect stages (tree_of old) lock ≡ [] → new ≡ old)
-    → IfErr r (λ fault. IfSome o (λ effect. IsStopped effect stages lock fault old.present new.present))
+    → IfErr r (λ fault. IfSome o (λ effect. AreHalted effect stages lock fault old.present new.present))
     → IfSome o (λ effect. Passes (InTurns effect stages lock old.present new.present) old new)
     → IfSome o (λ effect. Turned effect stages lock new_lock r old new)
-turned_at None stages lock new_lock r old new headline answer ran untouched stopped moments = tt
-turned_at (Some effect) stages lock new_lock r old new headline answer ran untouched stopped moments = record {
+turned_at None stages lock new_lock r old new headline answer ran untouched halted moments = tt
+turned_at (Some effect) stages lock new_lock r old new headline answer ran untouched halted moments = record {
   headline = headline;
   answer = answer;
   ran = ran;
   untouched = untouched;
-  stopped = stopped;
+  halted = halted;
   moments = moments;
 }
 
@@ -228,7 +229,7 @@ in_command words effect stages lock m end n w h =
     subst (λ (x : Option Workspace). InWorkspace effect x m end n) (sym (workspace_due-is words m.tree stages lock w)) h
 
 safe_of : (effect : Effect) (stages : List Stage) (lock : Lock) (m n : Moment) → stages_in m.tree ≡ Some stages → lock_of m.tree ≡ Some lock
-    → IsReliable effect m n → IsSafe effect stages lock m n
+    → IsReliable effect m n → AreReliable effect stages lock m n
 safe_of effect stages lock m n p l reliable = record {
   book = reliable.book;
   truthful = reliable.sound.truthful lock l;
@@ -237,7 +238,7 @@ safe_of effect stages lock m n p l reliable = record {
 
 reproduces : {A : Type 0} (r : Result A Fault) (effect : Effect) (stages : List Stage) (lock new_lock : Lock) (m n : Moment) → AreUsable stages → stages_in m.tree ≡ Some stages
     → lock_of m.tree ≡ Some lock → OnOk r (lock_of n.tree ≡ Some new_lock)
-    → OnOk r (IsSafe effect stages lock m n → LeavesAnew is_record effect stages (standing m.tree lock) (standing n.tree new_lock))
+    → OnOk r (AreReliable effect stages lock m n → LeavesAnew is_record effect stages (standing m.tree lock) (standing n.tree new_lock))
     → fault_in r ≡ None → IsReliable effect m n → Reproduces effect m n
 reproduces (Err fault) effect stages lock new_lock m n u p l remembers anew e reliable = absurd (some_is_none fault e)
 reproduces (Ok done) effect stages lock new_lock m n u p l remembers anew e reliable = record {
@@ -253,10 +254,10 @@ reproduces (Ok done) effect stages lock new_lock m n u p l remembers anew e reli
 }
 
 halts : {A : Type 0} (r : Result A Fault) (words : List (List ℕ)) (effect : Effect) (stages : List Stage) (lock : Lock) (m n : Moment) → IsWorkspaceOf words m.tree stages lock
-    → IfErr r (λ fault. IsStopped effect stages lock fault m n) → IfSome (fault_in r) (λ fault. IsHalted words effect fault m n)
-halts (Ok done) words effect stages lock m n w stopped = tt
-halts (Err fault) words effect stages lock m n w stopped =
-    subst (λ (x : Option Workspace). IsHaltedIn effect x fault m n) (sym (workspace_due-is words m.tree stages lock w)) (inr stopped)
+    → IfErr r (λ fault. AreHalted effect stages lock fault m n) → IfSome (fault_in r) (λ fault. IsHalted words effect fault m n)
+halts (Ok done) words effect stages lock m n w halted = tt
+halts (Err fault) words effect stages lock m n w halted =
+    subst (λ (x : Option Workspace). IsHaltedIn effect x fault m n) (sym (workspace_due-is words m.tree stages lock w)) (inr halted)
 
 turned_here : {A : Type 0} (r : Result A Fault) (words : List (List ℕ)) (effect : Effect) (stages : List Stage) (lock new_lock : Lock) (old new : History)
     → AreUsable stages → IsWorkspaceOf words (tree_of old) stages lock → OnOk r (lock_of (tree_of new) ≡ Some new_lock)
@@ -264,16 +265,16 @@ turned_here : {A : Type 0} (r : Result A Fault) (words : List (List ℕ)) (effec
 turned_here r words effect stages lock new_lock old new u w remembers turned =
     let t = tree_of old in
     let choices = choices_due-is words effect t stages lock w in
-    let safe : IsReliable effect old.present new.present → IsSafe effect stages lock old.present new.present =
+    let safe : IsReliable effect old.present new.present → AreReliable effect stages lock old.present new.present =
     safe_of effect stages lock old.present new.present w.planned w.remembered in
     record {
       headline = reproduces r effect stages lock new_lock old.present new.present u w.planned w.remembered remembers turned.headline;
       answer = λ reliable. subst (IsAnswer (fault_in r)) (sym (fault_due-is words effect t stages lock w)) (turned.answer (safe reliable));
       ran = λ reliable. subst (λ (cs : List (Stage × Choice)). Gains (fault_in r) (jobs_of old) (jobs cs) (jobs_of new)) (sym choices) (turned.ran (safe reliable));
       sound = λ reliable. passes_weaker (InTurns effect stages lock old.present new.present) (IsSound reliable.book effect) old new
-          (λ n. sound reliable.book effect stages lock old.present new.present n (u.planned t).ready u.outside u.recordable w.remembered reliable.sound (reliable.met stages w.planned)) turned.moments;
+          (λ n. sound reliable.book effect stages lock old.present new.present n (u.planned t).ready u.outside w.remembered reliable.sound (reliable.met stages w.planned)) turned.moments;
       untouched = λ e. turned.untouched (sym choices ∙ e);
-      halted = halts r words effect stages lock old.present new.present w turned.stopped;
+      halted = halts r words effect stages lock old.present new.present w turned.halted;
       moments = passes_weaker (InTurns effect stages lock old.present new.present) (InCommand words effect old.present new.present) old new
           (λ n. in_command words effect stages lock old.present new.present n w) turned.moments;
       book = turned.moments.now.book;
@@ -298,14 +299,14 @@ turned_refuses words got stages lock start old new same w some =
 
 pub turned_puts : (words : List (List ℕ)) (tells : Bool) (got : Option Fault) (stages : List Stage) (lock : Lock) (start old new : History) (before taken : List ℕ)
     → (IsTrue tells → old ≡ start) → (IsTrue tells → IsWorkspaceOf words (tree_of old) stages lock)
-    → WithEffect tells old (λ effect. IsSafe effect stages lock old.present new.present → Gains got before (report (due effect stages (tree_of old) lock)) taken)
+    → WithEffect tells old (λ effect. AreReliable effect stages lock old.present new.present → Gains got before (report (due effect stages (tree_of old) lock)) taken)
     → IsReport stages got before taken → PutsReport words tells got start new before taken
 turned_puts words tells got stages lock start old new before taken same w gains lines = record {
   quiet = λ told some. absurd (not_refused words (tree_of old) stages lock (w told) (subst (λ (h : History). IsSome (refusal words (tree_of h))) (sym (same told)) some));
   report = λ told.
       subst (λ (h : History). IfSome h.present.aside.fixed.effect (λ effect. IsReliable effect h.present new.present → Gains got before (report (choices_due words effect (tree_of h))) taken)) (same told)
       (each_effect old.present.aside.fixed.effect
-      (λ effect. IsSafe effect stages lock old.present new.present → Gains got before (report (due effect stages (tree_of old) lock)) taken)
+      (λ effect. AreReliable effect stages lock old.present new.present → Gains got before (report (due effect stages (tree_of old) lock)) taken)
       (λ effect. IsReliable effect old.present new.present → Gains got before (report (choices_due words effect (tree_of old))) taken)
       (λ effect safely reliable. subst (λ (cs : List (Stage × Choice)). Gains got before (report cs) taken) (sym (choices_due-is words effect (tree_of old) stages lock (w told)))
       (safely (safe_of effect stages lock old.present new.present (w told).planned (w told).remembered reliable))) (gains told));

@@ -1,9 +1,10 @@
-pub mod DistinctLemmas
-pub mod FormLaw
-pub mod FormLemmas
+pub mod NamesLemmas
 pub mod GraphLemmas
+pub mod SchemaLemmas
+pub mod RisingLemmas
 pub mod UsableLemmas
-pub mod StagesLemmas
+pub mod PlanLemmas
+pub mod ReadLemmas
 pub mod PlaceLemmas
 pub mod TakesLemmas
 pub mod AnswerLemmas

@@ -1,65 +1,60 @@
 -- Each moment that may be reached is sound: by what it comes from.
-use Rattle.std.proofs.Common.{◌≡◌, ℕ, Bool, true, false, List, [], Option, Some, None, refl, sym, ap, ◌∙◌, subst, inl, inr, IsTrue}
+use Rattle.std.proofs.Common.{◌≡◌, ℕ, List, [], Option, Some, None, Result, Ok, Err, refl, sym, ap, ◌∙◌, subst, inl, inr}
 use Rattle.std.proofs.lemmas.Bool.{cases_Bool}
-use Rattle.std.specs.Prelude.{option_map, if◌then◌else◌, ◌==◌, length}
-use Rattle.dvc_base.specs.Path.{Path}
+use Rattle.std.specs.Result.{result_ok}
 use Rattle.dvc_base.specs.declared.fault.Fault.{Fault}
-use Rattle.world_api.specs.Tree.{Tree, Item, folder, file, item_at}
+use Rattle.dvc_base.specs.declared.node.Node.{Node}
+use Rattle.dvc_base.specs.declared.node.Node.TheVariants.{Null}
+use Rattle.dvc_base.specs.declared.node.YamlFault.{YamlFault}
+use Rattle.yaml_nodes.specs.Document.{max_depth, parse}
+use Rattle.yaml_print.specs.Sound.{IsPrintable}
+use Rattle.yaml_print.proofs.ReadSound.{read_printable}
+use Rattle.yaml_print.proofs.SoundLemmas.{sound_null}
+use Rattle.world_api.specs.Tree.{Tree, item_at}
 use Rattle.world_api.specs.Effect.{Effect}
 use Rattle.world_api.specs.History.{Moment}
-use Rattle.world_api.specs.Layout.{lock_path, yaml_path}
+use Rattle.world_api.specs.Layout.{yaml_path}
 use Rattle.lock_files.specs.declared.entry.Entry.{Entry}
-use Rattle.lock_files.specs.Book.{Lock, entry_of}
+use Rattle.lock_files.specs.Book.{Lock}
 use Rattle.repro_laws.specs.Book.{Book}
 use Rattle.repro_laws.specs.Lock.{IsTruthful}
-use Rattle.repro_laws.specs.Moments.{InTurns}
-use Rattle.repro_laws.specs.Sound.{lock_by, lock_of, IsSound, IsMetSince}
+use Rattle.repro_laws.specs.Sound.{lock_by, lock_of, IsSound}
 use Rattle.repro_laws.specs.declared.stage.Stage.{Stage}
 use Rattle.repro_laws.proofs.SoundLaw.{sound, stops}
-use Rattle.dvc_cli.specs.Form.{Form, forms_of, stages_of, are_good}
-use Rattle.dvc_cli.specs.Workspace.{is_in_order_as_written, as_written, stages_in_item, stages_in, AreUsable, workspace_fault, Workspace, workspace_by, workspace_of}
-use Rattle.dvc_cli.specs.Command.{is_repro, workspace_due, InWorkspace, InCommand}
-use Rattle.dvc_cli.specs.Life.{IsFresh, IsEdit, IsStop, IsMet, IsReached, fresh, edited, commanded, stopped, LivesAreSound}
-use Rattle.dvc_cli.proofs.FormLemmas.{forms_of-good}
-use Rattle.dvc_cli.proofs.UsableLemmas.{usable}
+use Rattle.dvc_cli.specs.Plan.{plan_of, AreUsable}
+use Rattle.dvc_cli.specs.Read.{text_at, node_or, root_of}
+use Rattle.dvc_cli.specs.Workspace.{plan_by_root, stages_in, workspace_fault, Workspace, workspace_by, workspace_of}
+use Rattle.dvc_cli.specs.Command.{is_repro, workspace_due, InWorkspace}
+use Rattle.dvc_cli.specs.Life.{IsFresh, IsEdit, IsStop, IsMet, fresh, edited, commanded, stopped, LivesAreSound}
+use Rattle.dvc_cli.proofs.PlanLemmas.{plan_usable}
 
 -- ---- the stages of a workspace are usable
-
-same_stages : (a b : List Stage) → Some a ≡ Some b → a ≡ b
-same_stages a b e = cc
 
 no_stages : (b : List Stage) → None ≡ Some b → ⊥
 no_stages b e = cc
 
-if_true : (b : Bool) (x : List Stage) → b ≡ true → (if b then Some x else None) ≡ Some x
-if_true b x e = rw e refl
+same_stages : (a b : List Stage) → Some a ≡ Some b → a ≡ b
+same_stages a b e = cc
 
-if_false : (b : Bool) (x : List Stage) → b ≡ false → (if b then Some x else None) ≡ None
-if_false b x e = rw e refl
+planned : (plan : Result (List Stage) Fault) (ss : List Stage) → result_ok plan ≡ Some ss → plan ≡ Ok ss
+planned (Ok found) ss e = ap Ok (same_stages found ss e)
+planned (Err fault) ss e = absurd (no_stages ss e)
 
-good_graph : (fs : List Form) (stages : List Stage) → IsTrue (are_good fs) → as_written (Some (stages_of fs)) ≡ Some stages → AreUsable stages
-good_graph fs stages good e =
-    elim (cases_Bool (is_in_order_as_written (stages_of fs))) [
-      | inl holds ↦
-          subst AreUsable (same_stages (stages_of fs) stages (sym (if_true (is_in_order_as_written (stages_of fs)) (stages_of fs) holds) ∙ e)) (usable fs good holds)
-      | inr fails ↦ absurd (no_stages stages (sym (if_false (is_in_order_as_written (stages_of fs)) (stages_of fs) fails) ∙ e))
-    ]
+of_root : (root : Node) (stages : List Stage) → IsPrintable root → result_ok (plan_of root) ≡ Some stages → AreUsable stages
+of_root root stages printable e = plan_usable root stages printable (planned (plan_of root) stages e)
 
-of_forms : (text : List ℕ) (found : Option (List Form)) (stages : List Stage) → forms_of text ≡ found → as_written (option_map stages_of found) ≡ Some stages → AreUsable stages
-of_forms text None stages f e = absurd (no_stages stages e)
-of_forms text (Some fs) stages f e = good_graph fs stages (forms_of-good text fs f) e
+of_node : (text : List ℕ) (found : Result Node YamlFault) (stages : List Stage) → parse text ≡ found
+    → result_ok (plan_by_root (node_or found)) ≡ Some stages → AreUsable stages
+of_node text (Ok root) stages is e = of_root root stages (read_printable text root is) e
+of_node text (Err why) stages is e = absurd (no_stages stages e)
 
-of_text : (text : List ℕ) (empty : Bool) (stages : List Stage) → as_written (if empty then Some [] else option_map stages_of (forms_of text)) ≡ Some stages → AreUsable stages
-of_text text true stages e = good_graph [] stages refl e
-of_text text false stages e = of_forms text (forms_of text) stages refl e
+of_text : (text : Result (Option (List ℕ)) Fault) (stages : List Stage) → result_ok (plan_by_root (root_of text)) ≡ Some stages → AreUsable stages
+of_text (Ok None) stages e = of_root Null stages (sound_null max_depth) e
+of_text (Ok (Some text)) stages e = of_node text (parse text) stages refl e
+of_text (Err fault) stages e = absurd (no_stages stages e)
 
-of_item : (item : Option Item) (stages : List Stage) → as_written (stages_in_item item) ≡ Some stages → AreUsable stages
-of_item None stages e = good_graph [] stages refl e
-of_item (Some folder) stages e = absurd (no_stages stages e)
-of_item (Some (file text)) stages e = of_text text (length text == 0) stages e
-
-pub plan_usable : (t : Tree) (stages : List Stage) → stages_in t ≡ Some stages → AreUsable stages
-plan_usable t stages e = of_item (item_at t yaml_path) stages e
+pub stages_usable : (t : Tree) (stages : List Stage) → stages_in t ≡ Some stages → AreUsable stages
+stages_usable t stages e = of_text (text_at yaml_path (item_at t yaml_path)) stages e
 
 -- ---- what a command's workspace says
 
@@ -132,8 +127,8 @@ work_sound : (book : Book) (effect : Effect) (words : List (List ℕ)) (work : O
 work_sound book effect words None m end n e s met h = subst (IsSound book effect) (sym h) s
 work_sound book effect words (Some w) m end n e s met h =
     let is = work_due_parts words m.tree w e in
-    let usable = plan_usable m.tree w.stages is.plan in
-    sound book effect w.stages w.lock m end n (usable.planned m.tree).ready usable.outside usable.recordable is.remembered s (met.met w.stages is.plan) h
+    let usable = stages_usable m.tree w.stages is.plan in
+    sound book effect w.stages w.lock m end n (usable.planned m.tree).ready usable.outside is.remembered s (met.met w.stages is.plan) h
 
 pub lives : LivesAreSound
 lives book effect n (fresh _ h) = fresh_sound book effect n h

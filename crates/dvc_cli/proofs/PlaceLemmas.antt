@@ -1,9 +1,9 @@
 -- What must stand for a lock to be written, from what reading the workspace has found.
 --     can_write      no folder stands at the lock's path, and no file at the folder of the tool's own
-use Rattle.std.proofs.Common.{◌≡◌, ◌≢◌, ℕ, List, Option, Some, None, refl, sym, ap, ◌∙◌}
+use Rattle.std.proofs.Common.{◌≡◌, ◌≢◌, Some, None, refl, sym, ap, ◌∙◌}
 use Rattle.dvc_base.specs.declared.fault.Fault.{Fault}
 use Rattle.dvc_base.specs.declared.fault.Fault.TheVariants.{NotFolder}
-use Rattle.world_api.specs.Tree.{Tree, Item, folder, file, item_at}
+use Rattle.world_api.specs.Tree.{Tree, folder, item_at}
 use Rattle.world_api.specs.Calls.{parent}
 use Rattle.world_api.specs.Writes.{IsNoFileAt, CanWrite}
 use Rattle.world_api.specs.Layout.{dvc_path, lock_path}

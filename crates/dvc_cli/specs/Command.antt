@@ -10,7 +10,7 @@
 --     Refuses                      what the words and the workspace refuse comes before any turn
 --     Answers                      which faults it may answer
 --     PutsReport                   the lines that it puts
-use Rattle.std.specs.Prelude.{◌≡◌, ◌⊎◌, ℕ, Bool, List, [], ◌∷◌, Option, Some, None, IfSome, IsSome, bytes_eq, codes, IsTrue, if◌then◌else◌}
+use Rattle.std.specs.Prelude.{◌≡◌, ◌⊎◌, ℕ, Bool, List, [], ◌∷◌, ◌++◌, Option, Some, None, IfSome, IsSome, bytes_eq, codes, IsTrue, if◌then◌else◌}
 use Rattle.std.specs.Cmp.Lexicographic.{pointwise}
 use Rattle.std.specs.Option.{option_map_or}
 use Rattle.dvc_base.specs.Fault.{status_of, MayBe, IsHonest}
@@ -31,11 +31,11 @@ use Rattle.repro_laws.specs.Choices.{due, fault_of}
 use Rattle.repro_laws.specs.Turns.{standing}
 use Rattle.repro_laws.specs.Headline.{LeavesAnew}
 use Rattle.repro_laws.specs.Moments.{is_record, InTurns}
-use Rattle.repro_laws.specs.Sound.{lock_of, IsSound, IsMetSince, IsStopped, IsReport}
+use Rattle.repro_laws.specs.Sound.{lock_of, IsSound, IsMetSince, AreHalted, IsReport}
 use Rattle.repro_laws.specs.declared.stage.Stage.{Stage}
 use Rattle.repro_laws.specs.declared.stage.Choice.{Choice}
 use Rattle.repro_core.specs.Steps.{turn_kinds}
-use Rattle.dvc_cli.specs.Workspace.{stages_in, workspace_fault, Workspace, workspace_of}
+use Rattle.dvc_cli.specs.Workspace.{stages_in, read_kinds, workspace_fault, Workspace, workspace_of}
 
 -- the one command so far
 abbrev pub repro_words : List (List ℕ)
@@ -88,13 +88,13 @@ pub record Reproduces (effect : Effect) (old new : Moment) : Type 0 where
 -- ---- refusals
 
 -- what stops the reading of a workspace that has nothing to refuse
-abbrev pub stop_kinds : List FaultKind
-stop_kinds = k.NoMemory ∷ k.WorldFault ∷ []
+abbrev pub halt_kinds : List FaultKind
+halt_kinds = k.NoMemory ∷ k.WorldFault ∷ []
 
 -- the workspace couldn't be read, and nothing is touched; or turns have ended, and the next one was refused
 abbrev pub IsHaltedIn : Effect → Option Workspace → Fault → Moment → Moment → Type 0
 IsHaltedIn effect None fault m n = n ≡ m
-IsHaltedIn effect (Some w) fault m n = (MayBe stop_kinds (Some fault) × (n ≡ m)) ⊎ IsStopped effect w.stages w.lock fault m n
+IsHaltedIn effect (Some w) fault m n = (MayBe halt_kinds (Some fault) × (n ≡ m)) ⊎ AreHalted effect w.stages w.lock fault m n
 
 abbrev pub IsHalted : List (List ℕ) → Effect → Fault → Moment → Moment → Type 0
 IsHalted words effect fault m n = IsHaltedIn effect (workspace_due words m.tree) fault m n
@@ -123,7 +123,7 @@ pub record DoesCommand (words : List (List ℕ)) (effect : Effect) (got : Option
   pub sound : (reliable : IsReliable effect old.present new.present) → Passes (IsSound reliable.book effect) old new
   -- where no turn is due nothing is touched
   pub untouched : choices_due words effect (tree_of old) ≡ [] → new ≡ old
-  -- after any refusal the lock has the entries of the turns that ended, and that of the next one only where its publish failed
+  -- after any refusal the lock has the entries of the turns that ended, and that of the next one only where a call to the world failed
   pub halted : IfSome got (λ fault. IsHalted words effect fault old.present new.present)
   -- in each moment nothing is touched but the outputs of the workspace's stages and the tool's own files, and the lock is as
   -- it was, or has the entries of runs that have ended
@@ -135,7 +135,7 @@ abbrev pub Refuses : List (List ℕ) → Option Fault → History → History �
 Refuses words got old new = IsSome (refusal words (tree_of old)) → IsAnswer got (refusal words (tree_of old)) × (new ≡ old)
 
 abbrev pub command_kinds : List FaultKind
-command_kinds = k.BadWords ∷ k.NotFolder ∷ turn_kinds
+command_kinds = k.BadWords ∷ (read_kinds ++ turn_kinds)
 
 -- which faults may come, over any world
 pub record Answers (words : List (List ℕ)) (tells : Bool) (got : Option Fault) : Type 0 where

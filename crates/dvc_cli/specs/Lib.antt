@@ -1,5 +1,6 @@
-pub mod Form
+pub mod Plan
 pub mod Graph
+pub mod Read
 pub mod Workspace
 pub mod Tell
 pub mod Command

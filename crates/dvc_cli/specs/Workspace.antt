@@ -1,85 +1,66 @@
 -- What the workspace says: its stages, and what is remembered of them.
---     is_in_order_as_written stages    no output is named twice, and no dependency is an output of its own stage or of a later one
---     stages_in t                      the stages of a tree, where they can have their turns as they are written
---     AreUsable stages                 what is so of such stages in every tree
---     workspace_fault t                why a workspace can't be read, in the order of its refusals
---     workspace_of t                   the workspace of a tree, where nothing is refused
-use Rattle.std.specs.Prelude.{◌≡◌, ℕ, Bool, ◌&&◌, List, [], ◌∷◌, Option, Some, None, option_map, ◌==◌, length, ⊤, if◌then◌else◌}
-use Rattle.std.specs.List.{AllByRecursion, flat_map}
-use Rattle.dvc_base.specs.Path.{Path}
+--     plan_in t              the stages of a tree, or why it has none
+--     stages_in t            its stages, where it has some
+--     workspace_fault t      why a workspace can't be read: the first refusal in their order
+--     workspace_of t         the workspace of a tree, where nothing is refused
+use Rattle.std.specs.Prelude.{List, ◌∷◌, [], Option, Some, None, Result, Ok, Err}
+use Rattle.std.specs.Result.{result_ok}
+use Rattle.dvc_base.specs.Answer.{fault_in}
 use Rattle.dvc_base.specs.declared.fault.Fault.{Fault}
-use Rattle.dvc_base.specs.declared.fault.Fault.TheVariants.{NotBuilt, NotFolder, Changed}
+use Rattle.dvc_base.specs.declared.fault.Fault.TheVariants.{NotFolder}
 use Rattle.dvc_base.specs.declared.fault.FaultKind.{FaultKind}
 use Rattle.dvc_base.specs.declared.fault.FaultKind.TheVariants as k
-use Rattle.world_api.specs.Tree.{Tree, Item, folder, file, item_at}
-use Rattle.world_api.specs.Calls.{are_apart}
+use Rattle.dvc_base.specs.declared.node.Node.{Node}
+use Rattle.world_api.specs.Tree.{Tree, Item, file, item_at}
 use Rattle.world_api.specs.Layout.{dvc_path, lock_path, yaml_path}
 use Rattle.lock_files.specs.Book.{Lock}
-use Rattle.repro_laws.specs.Stage.{stage_outs}
 use Rattle.repro_laws.specs.Due.{first_fault}
-use Rattle.repro_laws.specs.Order.{order}
-use Rattle.repro_laws.specs.Headline.{is_ordered, IsPlanned}
-use Rattle.repro_laws.specs.Moments.{is_record}
-use Rattle.repro_laws.specs.Sound.{lock_of, IsRecordable, IsOutside}
+use Rattle.repro_laws.specs.Sound.{lock_of}
 use Rattle.repro_laws.specs.declared.stage.Stage.{Stage}
-use Rattle.dvc_cli.specs.Form.{forms_of, stages_of}
+use Rattle.dvc_cli.specs.Plan.{plan_of}
+use Rattle.dvc_cli.specs.Read.{root_at, book_at}
 
 -- ---- its stages
 
--- an empty text has no stages
-abbrev pub stages_in_text : List ℕ → Option (List Stage)
-stages_in_text text = if length text == 0 then Some [] else option_map stages_of (forms_of text)
+abbrev pub plan_by_root : Result Node Fault → Result (List Stage) Fault
+plan_by_root (Ok root) = plan_of root
+plan_by_root (Err fault) = Err fault
 
--- no stages where no file stands
-abbrev pub stages_in_item : Option Item → Option (List Stage)
-stages_in_item None = Some []
-stages_in_item (Some folder) = None
-stages_in_item (Some (file text)) = stages_in_text text
-
-abbrev pub is_in_order_as_written : List Stage → Bool
-is_in_order_as_written stages = are_apart (flat_map stage_outs stages) && is_ordered stages
-
-abbrev pub as_written : Option (List Stage) → Option (List Stage)
-as_written None = None
-as_written (Some stages) = if is_in_order_as_written stages then Some stages else None
+abbrev pub plan_in : Tree → Result (List Stage) Fault
+plan_in t = plan_by_root (root_at (item_at t yaml_path))
 
 abbrev pub stages_in : Tree → Option (List Stage)
-stages_in t = as_written (stages_in_item (item_at t yaml_path))
-
-abbrev pub stages_fault : Option (List Stage) → Option Fault
-stages_fault None = Some (NotBuilt yaml_path)
-stages_fault (Some stages) = None
-
-pub record AreUsable (stages : List Stage) : Type 0 where
-  pub planned : (t : Tree) → IsPlanned is_record stages t
-  pub recordable : AllByRecursion IsRecordable stages
-  pub outside : AllByRecursion IsOutside stages
-  pub in_order : order stages ≡ Some stages
+stages_in t = result_ok (plan_in t)
 
 -- ---- what is refused of it
 
--- which faults may come of reading it
-abbrev pub read_kinds : List FaultKind
-read_kinds = k.NoMemory ∷ k.WorldFault ∷ k.NotBuilt ∷ k.NotFolder ∷ k.Changed ∷ []
+-- which faults may come of a text, of a file, of a path's text, of the plan, and of the whole
+abbrev pub parse_kinds : List FaultKind
+parse_kinds = k.NoMemory ∷ k.Yaml ∷ k.Schema ∷ k.Unsupported ∷ k.Legacy ∷ []
 
--- a change of size is told of the file that was read, with the size that was told before
-abbrev pub IsChangeOf : Path → ℕ → Fault → Type 0
-IsChangeOf at size (Changed path told found) = (path ≡ at) × (told ≡ size)
-IsChangeOf at size _ = ⊤
+abbrev pub file_kinds : List FaultKind
+file_kinds = k.WorldFault ∷ k.NotBuilt ∷ k.TooLarge ∷ k.Changed ∷ parse_kinds
+
+abbrev pub outside_kinds : List FaultKind
+outside_kinds = k.NoMemory ∷ k.Outside ∷ []
+
+abbrev pub plan_kinds : List FaultKind
+plan_kinds = k.NotBuilt ∷ k.TooLarge ∷ k.Schema ∷ k.Unsupported ∷ outside_kinds
+
+abbrev pub read_kinds : List FaultKind
+read_kinds = k.NotFolder ∷ k.Outside ∷ file_kinds
 
 -- a file stands where the folder of the tool's own has to be
 abbrev pub place_fault : Option Item → Option Fault
 place_fault (Some (file bytes)) = Some (NotFolder dvc_path)
 place_fault _ = None
 
--- what stands at the lock's path isn't the text of a lock
-abbrev pub lock_fault : Option Lock → Option Fault
-lock_fault None = Some (NotBuilt lock_path)
-lock_fault (Some lock) = None
-
+-- the folder of the tool's own, the text of `dvc.yaml`, the lock, and then what `dvc.yaml` says
 abbrev pub workspace_fault : Tree → Option Fault
 workspace_fault t =
-    first_fault (place_fault (item_at t dvc_path)) (first_fault (stages_fault (stages_in t)) (lock_fault (lock_of t)))
+    first_fault (place_fault (item_at t dvc_path))
+    (first_fault (fault_in (root_at (item_at t yaml_path)))
+    (first_fault (fault_in (book_at (item_at t lock_path))) (fault_in (plan_in t))))
 
 -- ---- what it is about
 

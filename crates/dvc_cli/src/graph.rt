@@ -1,19 +1,26 @@
 // Whether stages can have their turns in the order in which they are written.
 ghost use Rattle.std.specs.Prelude.{◌≡◌, ℕ, ◌||◌, List, IfOk, IsTrue};
-ghost use Rattle.std.specs.List.{AllByRecursion, list_any};
+ghost use Rattle.std.specs.List.{list_any};
 ghost use Rattle.repro_laws.specs.Lock.{is_among};
-ghost use Rattle.dvc_cli.specs.Graph.{IsNamed, has, are_fresh};
-ghost use Rattle.dvc_cli.specs.Workspace.{is_in_order_as_written};
+ghost use Rattle.dvc_cli.specs.Graph.{has, are_fresh, are_in_order};
 
-use dvc_base::{NoMemory, Text};
-use repro_laws::Stage;
+use dvc_base::{NoMemory, Plural, Text, Texts};
 use std::alloc::Global;
 use std::collections::HashSet;
 
+/// The names of a stage's paths, which have one component each.
+#[derive(Drop)]
+pub(crate) struct Names {
+    pub(crate) deps: Texts,
+    pub(crate) outs: Texts,
+}
+
+/// The names of the paths of stages, in the order of the stages.
+pub(crate) type NamesList = Plural<Names>;
+
 /// Whether no output is named twice, and no dependency is an output of its own stage or of a later one.
-pub(crate) fn is_in_order_as_written(alloc: Global, stages: &[Stage]) -> Result<bool, NoMemory>
-    requires { AllByRecursion IsNamed stages.now }
-    ensures by_graph { IfOk result (λ answer. answer ≡ is_in_order_as_written stages.now) }
+pub(crate) fn are_in_order(alloc: Global, stages: &[Names]) -> Result<bool, NoMemory>
+    ensures by_graph { IfOk result (λ answer. answer ≡ are_in_order stages.now) }
 {
     // The outputs of the stages so far, from the last one on.
     let mut later = HashSet::new(alloc);

@@ -1,20 +1,19 @@
 //! The words of a command line, the workspace that they speak of, and the top call `dvc`.
 #![tactic(auto)]
 
+mod book;
 mod command;
-mod form;
 mod graph;
 mod law;
-mod lines;
 mod message;
-mod print;
+mod outside;
+mod plan;
 mod read;
 mod room;
-mod stages;
+mod root;
+mod turnable;
 mod workspace;
 
 pub use command::{Done, dvc};
-pub use form::read_form;
 pub use law::life_law;
 pub use message::tell;
-pub use stages::read_stages;

@@ -1,31 +1,86 @@
-// A file of the workspace, read whole.
-ghost use Rattle.std.specs.Prelude.{◌≡◌, IsTrue, IfOk, IfErr, IsErrOf, Some};
+// A file of the workspace, read whole: no text past the limit is read.
+ghost use Rattle.std.specs.Prelude.{◌≡◌, ◌≤◌, length, IsTrue, IfOk, IfErr, IfSome, IsErrOf, Some};
 ghost use Rattle.dvc_base.specs.Answer.{fault_in};
 ghost use Rattle.dvc_base.specs.Fault.{MayBe, IsHonest, is_free};
+ghost use Rattle.dvc_base.specs.Limits.{limit_of};
 ghost use Rattle.dvc_base.specs.declared.fault.Fault.TheVariants.{WorldFault};
+ghost use Rattle.dvc_base.specs.declared.limits.What.TheVariants.{YamlText};
 ghost use Rattle.world_api.specs.Tree.{item_at, file};
 ghost use Rattle.world_api.specs.History.{IsCaused};
 ghost use Rattle.world_api.specs.Outside.{tree_of, IsUntouched};
 ghost use Rattle.file_bytes.specs.Reading.{IsTold};
-ghost use Rattle.dvc_cli.specs.Workspace.{read_kinds, IsChangeOf};
+ghost use Rattle.dvc_cli.specs.Read.{IsRead, text_at, IsChangeOf};
+ghost use Rattle.dvc_cli.specs.Workspace.{file_kinds};
 
-use dvc_base::{Fault, Plain, Rel};
+use dvc_base::{Bytes, Fault, Plain, Rel, What};
 use file_bytes::{ReadFault, read_whole};
 use std::alloc::Global;
-use world_api::ReadFiles;
+use world_api::{Kind, ReadFiles};
 
-/// The bytes of a file that was told to have this size.
+/// The text at the path; none where nothing stands there.
 pub(crate) fn read_text<F: ReadFiles>(
     alloc: Global,
     files: &mut F,
     at: &Rel,
+) -> Result<Option<Bytes>, Fault>
+    ensures read { IsTrue F.tells →
+        IsRead result (text_at at.now (item_at (tree_of (F.history files.old)) at.now)) }
+    ensures short { IfOk result (λ text. IfSome text (λ bytes. length bytes ≤ limit_of YamlText)) }
+    ensures unchanged { IsUntouched F.tells (F.history files.old) (F.history files.new) }
+    ensures kinds { MayBe file_kinds (fault_in result) }
+    ensures honest { IsHonest F.tells (fault_in result) }
+    ensures cause { IsCaused (F.faults files.old) (F.faults files.new) (IsErrOf result WorldFault) }
+{
+    match files.kind(at) {
+        Ok(Kind::Missing) => Ok(None),
+        Ok(Kind::File { size }) => read_short(alloc, files, at, size),
+        Ok(Kind::Folder) => Err(Fault::NotBuilt {
+            file: at.copy(alloc)?,
+        }),
+        Err(_) => Err(Fault::WorldFault),
+    }
+}
+
+// The text of a file that was told to have this size, unless that is past the limit.
+fn read_short<F: ReadFiles>(
+    alloc: Global,
+    files: &mut F,
+    at: &Rel,
     size: u64,
-) -> Result<Vec<u8>, Fault>
+) -> Result<Option<Bytes>, Fault>
+    requires told { IsTrue F.tells → IsTold (item_at (tree_of (F.history files.old)) at.now) size }
+    ensures read { IsTrue F.tells →
+        IsRead result (text_at at.now (item_at (tree_of (F.history files.old)) at.now)) }
+    ensures short { IfOk result (λ text. IfSome text (λ bytes. length bytes ≤ limit_of YamlText)) }
+    ensures unchanged { IsUntouched F.tells (F.history files.old) (F.history files.new) }
+    ensures kinds { MayBe file_kinds (fault_in result) }
+    ensures honest { IsHonest F.tells (fault_in result) }
+    ensures cause { IsCaused (F.faults files.old) (F.faults files.new) (IsErrOf result WorldFault) }
+{
+    let limit = What::YamlText.limit();
+    if size > limit {
+        return Err(Fault::TooLarge {
+            what: What::YamlText,
+            limit,
+        });
+    }
+    let text = read_told(alloc, files, at, size)?;
+    Ok(Some(text))
+}
+
+// The bytes of a file that was told to have this size.
+fn read_told<F: ReadFiles>(
+    alloc: Global,
+    files: &mut F,
+    at: &Rel,
+    size: u64,
+) -> Result<Bytes, Fault>
     requires told { IsTrue F.tells → IsTold (item_at (tree_of (F.history files.old)) at.now) size }
     ensures read { IsTrue F.tells → IfOk result (λ text.
-        item_at (tree_of (F.history files.old)) at.now ≡ Some (file text.items)) }
+        item_at (tree_of (F.history files.old)) at.now ≡ Some (file text)) }
+    ensures sized { IfOk result (λ text. length text ≡ size) }
     ensures unchanged { IsUntouched F.tells (F.history files.old) (F.history files.new) }
-    ensures kinds { MayBe read_kinds (fault_in result) }
+    ensures kinds { MayBe file_kinds (fault_in result) }
     ensures honest { IsHonest F.tells (fault_in result) }
     // Where the world tells its tree, only want of memory and its own failures stop it.
     ensures free { IsTrue F.tells → IfErr result (λ fault. IsTrue (is_free fault)) }
@@ -33,7 +88,7 @@ pub(crate) fn read_text<F: ReadFiles>(
     ensures cause { IsCaused (F.faults files.old) (F.faults files.new) (IsErrOf result WorldFault) }
 {
     match read_whole(alloc, files, at, size) {
-        Ok(text) => Ok(text),
+        Ok(text) => Ok(Bytes::from_vec(text)),
         Err(ReadFault::Changed { told, found }) => {
             let path = at.copy(alloc)?;
             Err(Fault::Changed { path, told, found })

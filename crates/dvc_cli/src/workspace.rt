@@ -8,17 +8,19 @@ ghost use Rattle.world_api.specs.History.{IsCaused};
 ghost use Rattle.world_api.specs.Layout.{dvc_path, lock_path};
 ghost use Rattle.world_api.specs.Outside.{tree_of, IsUntouched};
 ghost use Rattle.world_api.specs.Writes.{CanWrite};
-ghost use Rattle.file_bytes.specs.Reading.{IsTold};
+ghost use Rattle.lock_files.specs.Form.{IsBook};
 ghost use Rattle.repro_laws.specs.Sound.{lock_of};
-ghost use Rattle.dvc_cli.specs.Workspace.{stages_in, AreUsable, place_fault, lock_fault, workspace_fault, read_kinds};
+ghost use Rattle.dvc_cli.specs.Plan.{AreUsable};
+ghost use Rattle.dvc_cli.specs.Workspace.{stages_in, place_fault, workspace_fault, read_kinds};
 
-use crate::read::read_text;
-use crate::stages::read_stages;
-use dvc_base::{Fault, Rel};
-use lock_files::{LockBook, LockFault, read_lock};
+use crate::book::read_book;
+use crate::plan::plan_of;
+use crate::root::read_root;
+use dvc_base::Fault;
+use lock_files::LockBook;
 use repro_laws::Stages;
 use std::alloc::Global;
-use world_api::{Kind, ReadFiles, dvc_path, lock_path};
+use world_api::{Kind, ReadFiles, dvc_path};
 
 /// The stages of a workspace in their order, and what is remembered of them.
 #[derive(Drop)]
@@ -27,8 +29,10 @@ pub(crate) struct Workspace {
     pub(crate) lock: LockBook,
 }
 
+/// Reads `dvc.yaml` and `dvc.lock`. The lock's refusals come before those of what `dvc.yaml` says.
 pub(crate) fn read_workspace<F: ReadFiles>(alloc: Global, files: &mut F) -> Result<Workspace, Fault>
     ensures ready { IfOk result (λ workspace. AreUsable workspace.stages) }
+    ensures form { IfOk result (λ workspace. IsBook workspace.lock) }
     ensures planned { IsTrue F.tells → IfOk result (λ workspace.
         stages_in (tree_of (F.history files.old)) ≡ Some workspace.stages) }
     ensures remembered { IsTrue F.tells → IfOk result (λ workspace.
@@ -43,8 +47,9 @@ pub(crate) fn read_workspace<F: ReadFiles>(alloc: Global, files: &mut F) -> Resu
     ensures cause { IsCaused (F.faults files.old) (F.faults files.new) (IsErrOf result WorldFault) }
 {
     check_place(alloc, files)?;
-    let stages = read_stages(alloc, files)?;
+    let root = read_root(alloc, files)?;
     let lock = read_book(alloc, files)?;
+    let stages = plan_of(alloc, &root)?;
     Ok(Workspace { stages, lock })
 }
 
@@ -62,51 +67,5 @@ fn check_place<F: ReadFiles>(alloc: Global, files: &mut F) -> Result<(), Fault>
         Ok(Kind::File { .. }) => Err(Fault::NotFolder { path: at }),
         Ok(_) => Ok(()),
         Err(_) => Err(Fault::WorldFault),
-    }
-}
-
-// What is remembered: nothing where no lock stands.
-fn read_book<F: ReadFiles>(alloc: Global, files: &mut F) -> Result<LockBook, Fault>
-    ensures remembered { IsTrue F.tells → IfOk result (λ lock.
-        lock_of (tree_of (F.history files.old)) ≡ Some lock) }
-    ensures answer { IsTrue F.tells → IsAnswer (fault_in result)
-        (lock_fault (lock_of (tree_of (F.history files.old)))) }
-    ensures unchanged { IsUntouched F.tells (F.history files.old) (F.history files.new) }
-    ensures kinds { MayBe read_kinds (fault_in result) }
-    ensures honest { IsHonest F.tells (fault_in result) }
-    ensures cause { IsCaused (F.faults files.old) (F.faults files.new) (IsErrOf result WorldFault) }
-{
-    let at = lock_path(alloc)?;
-    match files.kind(&at) {
-        Ok(Kind::Missing) => Ok(LockBook::new(alloc)),
-        Ok(Kind::File { size }) => read_lock_file(alloc, files, at, size),
-        Ok(Kind::Folder) => Err(Fault::NotBuilt { file: at }),
-        Err(_) => Err(Fault::WorldFault),
-    }
-}
-
-// What the file remembers, which was told to have this size.
-fn read_lock_file<F: ReadFiles>(
-    alloc: Global,
-    files: &mut F,
-    at: Rel,
-    size: u64,
-) -> Result<LockBook, Fault>
-    requires path { at ≡ lock_path }
-    requires told { IsTrue F.tells → IsTold (item_at (tree_of (F.history files.old)) at) size }
-    ensures remembered { IsTrue F.tells → IfOk result (λ lock.
-        lock_of (tree_of (F.history files.old)) ≡ Some lock) }
-    ensures answer { IsTrue F.tells → IsAnswer (fault_in result)
-        (lock_fault (lock_of (tree_of (F.history files.old)))) }
-    ensures unchanged { IsUntouched F.tells (F.history files.old) (F.history files.new) }
-    ensures kinds { MayBe read_kinds (fault_in result) }
-    ensures honest { IsHonest F.tells (fault_in result) }
-    ensures cause { IsCaused (F.faults files.old) (F.faults files.new) (IsErrOf result WorldFault) }
-{
-    let text = read_text(alloc, files, &at, size)?;
-    match read_lock(alloc, &text) {
-        Ok(lock) => Ok(lock),
-        Err(LockFault::NotLock) => Err(Fault::NotBuilt { file: at }),
-        Err(LockFault::NoMemory) => Err(Fault::NoMemory),
     }
 }

@@ -2,11 +2,12 @@
 --     name_of_bytes bytes    the MD5 of RFC 1321, in lower-case digits
 --     named_of value         a value's name and size; none where there is nothing
 --     naming_of item         what naming the item at a path answers
-use Rattle.std.specs.Prelude.{◌≡◌, ℕ, Bool, false, List, length, Option, Some, None, Result, Ok, Err, ⊤}
+--     IsFileName named       a name that a file may have
+use Rattle.std.specs.Prelude.{◌≡◌, ℕ, Bool, false, List, length, Option, Some, None, Result, Ok, Err, IsTrue, ⊤}
 use Rattle.md5.specs.Md5.{md5}
 use Rattle.hex.specs.Hex.{encode_lower}
 use Rattle.dvc_base.specs.Path.{Path}
-use Rattle.dvc_base.specs.Name.{ObjectName}
+use Rattle.dvc_base.specs.Name.{ObjectName, are_digits}
 use Rattle.world_api.specs.Tree.{Item, folder, file, Value, nothing, content, members}
 use Rattle.world_api.specs.Outside.{IsHonest}
 use Rattle.file_hash.specs.declared.named.Named.{Named}
@@ -18,6 +19,12 @@ name_of_bytes bytes = record { digits = encode_lower (md5 bytes); dir = false }
 
 abbrev pub named_bytes : List ℕ → Named
 named_bytes bytes = record { name = name_of_bytes bytes; size = length bytes; nfiles = None }
+
+-- 32 digits, of no folder's listing, and no number of files
+pub record IsFileName (named : Named) : Type 0 where
+  pub digits : IsTrue (are_digits named.name.digits)
+  pub dir : named.name.dir ≡ false
+  pub nfiles : named.nfiles ≡ None
 
 -- folders have no name yet: theirs is that of a listing
 abbrev pub named_of : Value → Option Named

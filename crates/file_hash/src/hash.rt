@@ -7,7 +7,7 @@ ghost use Rattle.world_api.specs.Outside.{tree_of, IsUntouched};
 ghost use Rattle.world_api.specs.History.{IsCaused};
 ghost use Rattle.file_bytes.specs.Reading.{IsTold, HasTaken, IsChange};
 ghost use Rattle.file_bytes.specs.declared.fault.ReadFault.TheVariants.{Failed as Unread};
-ghost use Rattle.file_hash.specs.Naming.{named_of, naming_of, IsNaming, IsChangeAt, IsToldAs};
+ghost use Rattle.file_hash.specs.Naming.{named_of, naming_of, IsNaming, IsFileName, IsChangeAt, IsToldAs};
 ghost use Rattle.file_hash.specs.declared.fault.HashFault.TheVariants.{Failed as Blamed};
 
 use crate::{HashFault, Named};
@@ -23,6 +23,7 @@ pub fn name_at<F: ReadFiles>(alloc: Global, files: &mut F, at: &Rel) -> Result<N
     ensures named { IsTrue F.tells → IfOk result (λ named.
         named_of (value_at (tree_of (F.history files.old)) at.now) ≡ Some named) }
     ensures answer { IsTrue F.tells → IsNaming result (naming_of (item_at (tree_of (F.history files.old)) at.now)) }
+    ensures file { IfOk result IsFileName }
     ensures unchanged { IsUntouched F.tells (F.history files.old) (F.history files.new) }
     ensures changed { IfErr result (IsChangeAt F.tells at.now) }
     ensures cause { IsCaused (F.faults files.old) (F.faults files.new) (IsErrOf result Blamed) }
@@ -44,6 +45,7 @@ fn name_file<F: ReadFiles>(
 ) -> Result<Named, HashFault>
     requires { IsTrue F.tells → IsTold (item_at (tree_of (F.history files.old)) at.now) size }
     ensures answer { IsTrue F.tells → IsNaming result (naming_of (item_at (tree_of (F.history files.old)) at.now)) }
+    ensures file { IfOk result IsFileName }
     ensures sized { IfOk result (λ named. named.size ≡ size) }
     ensures unchanged { IsUntouched F.tells (F.history files.old) (F.history files.new) }
     ensures changed { IfErr result (IsChangeAt F.tells at.now) }

@@ -1,42 +1,67 @@
--- Books in form, and their texts.
---     is_book book       each name, command and path stands in the text as it is, no two stages have one name; each stage has one
---                        command, and dependencies and outputs: files, in the order of their paths' bytes
---     IsLock text book   the text is that of the book, which is in form
-use Rattle.std.specs.Prelude.{◌≡◌, ℕ, ◌^◌, Bool, true, not, ◌&&◌, List, [], ◌∷◌, length, map, is_some, IsTrue, nat_lt, ◌==◌, slice_index_or}
+-- Values in form, which are printed and read back.
+--     IsEntry e       a command; path entries with distinct paths and parameters, each list in order
+--     IsTrack t       path entries with distinct paths, and other pairs
+--     IsBook book     distinct stages, each with an entry in form
+-- Numbers among the parameters and in the other pairs have to be spelled as their kind and value are (`IsSound`), and 59 collections
+-- may stand in one another in a parameter, 63 in another pair, so that the whole has at most 64.
+use Rattle.std.specs.Prelude.{◌≡◌, ℕ, ◌<◌, ◌^◌, Bool, true, false, not, ◌&&◌, List, [], ◌∷◌, ◌++◌, length, map, Option, Some, None, IsTrue, nat_lt, codes}
 use Rattle.std.specs.List.{list_all}
-use Rattle.std.specs.Cmp.Lexicographic.{slice_cmp}
-use Rattle.std.specs.Ordering.{nat_cmp, is_lt}
 use Rattle.dvc_base.specs.Name.{are_digits}
+use Rattle.dvc_base.specs.declared.data.ParamFile.{ParamFile}
+use Rattle.dvc_base.specs.declared.node.Pair.{Pair}
+use Rattle.yaml_nodes.specs.Part.{key_of}
+use Rattle.yaml_print.specs.Print.{value_of}
+use Rattle.yaml_print.specs.Sound.{Each, are_new, IsSound}
 use Rattle.lock_files.specs.declared.entry.PathEntry.{PathEntry}
 use Rattle.lock_files.specs.declared.entry.Entry.{Entry}
-use Rattle.lock_files.specs.Word.{is_name, is_command}
+use Rattle.lock_files.specs.declared.entry.Track.{Track}
+use Rattle.lock_files.specs.Mapping.{has}
+use Rattle.lock_files.specs.Order.{is_rising}
+use Rattle.lock_files.specs.Refused.{is_among}
+use Rattle.lock_files.specs.Value.{path_at, is_other_key}
 use Rattle.lock_files.specs.Book.{Lock, is_lock}
-use Rattle.lock_files.specs.Lock.{lock_text}
 
--- a file with its name and its size
-abbrev pub is_path : PathEntry → Bool
-is_path e =
-    is_name e.path && ((not e.name.dir && are_digits e.name.digits) && (nat_lt e.size (2 ^ 64) && not (is_some e.nfiles)))
+-- the number of files stands exactly beside the name of a folder
+abbrev pub is_count : Bool → Option ℕ → Bool
+is_count dir None = not dir
+is_count dir (Some n) = dir && nat_lt n (2 ^ 64)
 
--- texts in the order of their bytes, no two of them equal
-abbrev pub is_rising : List (List ℕ) → Bool
-is_rising [] = true
-is_rising (text ∷ []) = true
-is_rising (text ∷ next ∷ texts) = is_lt (slice_cmp nat_cmp text next) && is_rising (next ∷ texts)
+abbrev pub is_path_entry : PathEntry → Bool
+is_path_entry e = are_digits e.name.digits && (nat_lt e.size (2 ^ 64) && is_count e.name.dir e.nfiles)
 
 abbrev pub are_paths : List PathEntry → Bool
-are_paths paths = not (length paths == 0) && (list_all is_path paths && is_rising (map (λ e. e.path) paths))
+are_paths es = list_all is_path_entry es && is_rising (map path_at es)
 
-abbrev pub is_entry : Entry → Bool
-is_entry e =
-    ((length e.commands == 1) && is_command (slice_index_or e.commands 0 [])) && (are_paths e.deps && are_paths e.outs)
+-- keys in order, each with a value that stands under five collections
+pub record IsKeyed (ps : List Pair) : Type 0 where
+  pub rising : IsTrue (is_rising (map key_of ps))
+  pub sound : Each (λ p. IsSound 59 (value_of p)) ps
 
-abbrev pub is_stage : List ℕ × Entry → Bool
-is_stage s = is_name s.0 && is_entry s.1
+abbrev pub file_at : ParamFile → List ℕ
+file_at f = f.file
 
-abbrev pub is_book : Lock → Bool
-is_book book = is_lock book && list_all is_stage book
+pub record IsEntry (e : Entry) : Type 0 where
+  pub commands : 0 < length e.commands
+  pub deps : IsTrue (are_paths e.deps)
+  pub files : IsTrue (is_rising (map file_at e.params))
+  pub keys : Each (λ f. IsKeyed f.keys) e.params
+  pub outs : IsTrue (are_paths e.outs)
 
-pub record IsLock (text : List ℕ) (book : Lock) : Type 0 where
-  pub printed : text ≡ lock_text book
-  pub good : IsTrue (is_book book)
+-- none of the texts stands before it, nor among `before`
+abbrev pub are_distinct : List (List ℕ) → List (List ℕ) → Bool
+are_distinct before [] = true
+are_distinct before (text ∷ texts) = not (is_among text before) && are_distinct (before ++ text ∷ []) texts
+
+pub record IsTrack (t : Track) : Type 0 where
+  pub some : 0 < length t.outs
+  pub outs : IsTrue (list_all is_path_entry t.outs)
+  pub paths : IsTrue (are_distinct [] (map path_at t.outs))
+  pub others : IsTrue (list_all is_other_key t.rest)
+  pub no_deps : has (codes "deps") t.rest ≡ false
+  pub no_wdir : has (codes "wdir") t.rest ≡ false
+  pub keys : IsTrue (are_new [] t.rest)
+  pub sound : Each (λ p. IsSound 63 (value_of p)) t.rest
+
+pub record IsBook (book : Lock) : Type 0 where
+  pub names : IsTrue (is_lock book)
+  pub entries : Each (λ s. IsEntry s.1) book

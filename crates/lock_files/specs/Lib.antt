@@ -1,5 +1,10 @@
-pub mod Word
+pub mod Mapping
+pub mod Order
+pub mod Refused
+pub mod Met
+pub mod Value
 pub mod Book
-pub mod Lock
+pub mod Nodes
 pub mod Form
 pub mod Read
+pub mod Cases

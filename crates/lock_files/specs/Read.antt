@@ -1,99 +1,59 @@
--- How a lock is read: line by line, each by what stands in front of it. Anything is read as some book; the text is a lock where
--- it is the text of this very book.
---     lock_in text            the book in form of which this is the text, if there is one
---     IsReading text found    what is found is the only book in form of which this is the text; or there is none
-use Rattle.std.specs.Prelude.{◌≡◌, ℕ, ◌-◌, ◌^◌, Bool, true, false, not, ◌&&◌, List, [], ◌∷◌, ◌++◌, length, take, drop, Option, Some, None, nat_lt, ◌==◌, bytes_eq, codes, if◌then◌else◌, slice_range, fold}
-use Rattle.std.specs.List.{list_all, slice_split}
-use Rattle.std.specs.Str.Parse.{digits_value}
-use Rattle.dvc_base.specs.Name.{ObjectName, name_in}
-use Rattle.lock_files.specs.declared.entry.PathEntry.{PathEntry}
+-- What a text is read as, and what an answer has to do with it.
+--     lock_read text, track_read text, entry_read text     the value, or the first refusal: why the text has no node, or what is
+--                                                          refused of its node
+--     IsAnswer got due      the answer is the one that is due, unless memory ran out
+--     IsCheck got due       the check answers the refusal that is due, unless memory ran out
+use Rattle.std.specs.Prelude.{◌≡◌, ℕ, List, [], Some, None, Result, Ok, Err}
+use Rattle.dvc_base.specs.declared.node.Node.{Node}
+use Rattle.dvc_base.specs.declared.node.YamlFault.{YamlFault}
+use Rattle.yaml_nodes.specs.Document.{parse}
+use Rattle.lock_files.specs.declared.fault.LockFault.{LockFault}
+use Rattle.lock_files.specs.declared.fault.LockFault.TheVariants.{NoMemory, Yaml}
 use Rattle.lock_files.specs.declared.entry.Entry.{Entry}
-use Rattle.lock_files.specs.Word.{is_name}
-use Rattle.lock_files.specs.Book.{Lock, set}
-use Rattle.lock_files.specs.Lock.{is_decimal, lock_text}
-use Rattle.lock_files.specs.Form.{is_stage, IsLock}
+use Rattle.lock_files.specs.declared.entry.Track.{Track}
+use Rattle.lock_files.specs.Book.{Lock}
+use Rattle.lock_files.specs.Refused.{Refusal, lock_refused, track_refused, entry_refused}
+use Rattle.lock_files.specs.Value.{lock_in, track_in, entry_in}
 
--- ---- the parts of a path
+abbrev pub value_unless : {A : Type 0} → Refusal → A → Result A LockFault
+value_unless None value = Ok value
+value_unless (Some fault) value = Err fault
 
--- a number below 2^64, in decimal digits
-abbrev pub number_in : List ℕ → Option ℕ
-number_in text =
-    if list_all is_decimal text && (not (length text == 0) && nat_lt (digits_value 10 text) (2 ^ 64)) then Some (digits_value 10 text) else None
+-- the node of a text, or why it has none
+abbrev pub node_or : Result Node YamlFault → Result Node LockFault
+node_or (Ok v) = Ok v
+node_or (Err fault) = Err (Yaml fault)
 
--- a name without the quotes, which make it longer by two
-abbrev pub unquoted : List ℕ → List ℕ
-unquoted scalar = if length scalar == 34 then slice_range scalar 1 33 else scalar
+unfoldable pub node_read : List ℕ → Result Node LockFault
+node_read text = node_or (parse text)
 
-abbrev pub path_with : List ℕ → Option ObjectName → Option ℕ → Option PathEntry
-path_with path (Some name) (Some size) = Some (record { path = path; name = name; size = size; nfiles = None })
-path_with path _ _ = None
+abbrev pub read_by : {A : Type 0} → (Node → Refusal) → (Node → A) → Result Node LockFault → Result A LockFault
+read_by refused value (Ok v) = value_unless (refused v) (value v)
+read_by refused value (Err fault) = Err fault
 
--- a path with its name and its size, where each of them is one
-abbrev pub path_in : List ℕ → List ℕ → List ℕ → Option PathEntry
-path_in path name size = if is_name path then path_with path (name_in (unquoted name)) (number_in size) else None
+unfoldable pub lock_read : List ℕ → Result Lock LockFault
+lock_read text = read_by lock_refused lock_in (node_read text)
 
--- ---- lines
+unfoldable pub track_read : List ℕ → Result Track LockFault
+track_read text = read_by track_refused track_in (node_read text)
 
--- what has been read: the stages that are whole, and the parts of the last one
-pub record Reading : Type 0 where
-  pub book : Lock
-  pub stage : List ℕ
-  pub command : List ℕ
-  pub deps : List PathEntry
-  pub outs : List PathEntry
-  pub in_outs : Bool
-  pub path : List ℕ
-  pub name : List ℕ
+unfoldable pub entry_read : List ℕ → Result Entry LockFault
+entry_read text = read_by (entry_refused []) entry_in (node_read text)
 
--- the last stage is begun: nothing but its name is read
-abbrev pub begun : Lock → List ℕ → Reading
-begun book stage =
-    record { book = book; stage = stage; command = []; deps = []; outs = []; in_outs = false; path = []; name = [] }
+-- ---- answers
 
-abbrev pub last_entry : Reading → Entry
-last_entry r = record { commands = r.command ∷ []; deps = r.deps; outs = r.outs }
+abbrev pub Ends : {A : Type 0} → LockFault → Result A LockFault → Type 0
+Ends NoMemory due = Unit {0}
+Ends fault due = due ≡ Err fault
 
--- all stages: the last one too, if it is in form
-abbrev pub stages_of : Reading → Lock
-stages_of r = if is_stage (r.stage, last_entry r) then set r.book r.stage (last_entry r) else r.book
+abbrev pub IsAnswer : {A : Type 0} → Result A LockFault → Result A LockFault → Type 0
+IsAnswer (Ok value) due = due ≡ Ok value
+IsAnswer (Err fault) due = Ends fault due
 
--- a path more, among the dependencies or the outputs; its parts are read once, whether it is one or not
-abbrev pub with_path : Reading → Option PathEntry → Reading
-with_path r None = record r { path = []; name = [] }
-with_path r (Some path) =
-    if r.in_outs then record r { outs = r.outs ++ path ∷ []; path = []; name = [] }
-    else record r { deps = r.deps ++ path ∷ []; path = []; name = [] }
+abbrev pub Refuses : LockFault → Refusal → Type 0
+Refuses NoMemory due = Unit {0}
+Refuses fault due = due ≡ Some fault
 
-abbrev pub begins : List ℕ → List ℕ → Bool
-begins key line = bytes_eq (take (length key) line) key
-
-abbrev pub behind : List ℕ → List ℕ → List ℕ
-behind key line = drop (length key) line
-
--- a stage's name, behind which a colon stands
-abbrev pub without_colon : List ℕ → List ℕ
-without_colon text = take (length text - 1) text
-
-abbrev pub read_line : Reading → List ℕ → Reading
-read_line r line =
-    if begins (codes "      size: ") line then with_path r (path_in r.path r.name (behind (codes "      size: ") line))
-    else if begins (codes "      md5: ") line then record r { name = behind (codes "      md5: ") line }
-    else if begins (codes "      hash: ") line then r
-    else if begins (codes "    - path: ") line then record r { path = behind (codes "    - path: ") line }
-    else if begins (codes "    cmd: ") line then record r { command = behind (codes "    cmd: ") line }
-    else if begins (codes "    deps:") line then record r { in_outs = false }
-    else if begins (codes "    outs:") line then record r { in_outs = true }
-    else if begins (codes "  ") line then begun (stages_of r) (without_colon (behind (codes "  ") line))
-    else r
-
--- ---- texts
-
-abbrev pub book_in : List ℕ → Lock
-book_in text = stages_of (fold read_line (begun [] []) (slice_split (λ byte. byte == 10) text))
-
-abbrev pub lock_in : List ℕ → Option Lock
-lock_in text = let book = book_in text in if bytes_eq text (lock_text book) then Some book else None
-
-abbrev pub IsReading : List ℕ → Option Lock → Type 0
-IsReading text None = (book : Lock) → IsLock text book → ⊥
-IsReading text (Some book) = IsLock text book × ((other : Lock) → IsLock text other → other ≡ book)
+abbrev pub IsCheck : {A : Type 0} → Result A LockFault → Refusal → Type 0
+IsCheck (Ok done) due = due ≡ None
+IsCheck (Err fault) due = Refuses fault due

@@ -17,8 +17,12 @@ pub struct LockBook {
 impl Model for LockBook {
     ghost use Rattle.std.specs.Prelude.{map, string_bytes};
     ghost use Rattle.lock_files.specs.Book.{Lock};
+    ghost use Rattle.std.specs.Coded.{codes};
+    ghost use Rattle.dvc_base.specs.contracts.node.Pair as pair;
 
     ghost Value = { Lock };
+
+    ghost coded = { Prim.hlevel (codes, pair.the_row.coded) };
 
     ghost view = { λ b. map (λ e. (string_bytes e.0, e.1)) b.stages.entries };
 }

@@ -1,16 +1,25 @@
-//! `dvc.lock`: what is remembered of each stage, and its text.
+//! What is remembered of runs and of added data: `dvc.lock`, track files and single entries, both ways.
+//!
+//! A text is read in two steps: its node is looked through for the first refusal, and what a good node says is copied out of it.
 #![tactic(auto)]
 
 mod book;
+mod cases;
 mod entry;
-mod field;
-mod form;
+mod fault;
+mod mapping;
+mod nodes;
+mod order;
+mod paths;
 mod print;
 mod read;
-mod word;
+mod refused;
+mod refusing;
+mod value;
 
 pub use book::LockBook;
-pub use entry::{Entry, PathEntries, PathEntry};
-pub use print::print_lock;
-pub use read::{LockFault, read_lock};
-pub use word::{is_command, is_name};
+pub use cases::worked_cases;
+pub use entry::{Entry, PathEntries, PathEntry, Track};
+pub use fault::LockFault;
+pub use print::{print_entry, print_lock, print_track};
+pub use read::{read_entry, read_lock, read_track};

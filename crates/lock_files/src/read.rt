@@ -1,210 +1,93 @@
-// The book of a lock's text.
-ghost use Rattle.std.specs.Prelude.{◌≡◌, [], ◌∷◌, Some, None, Err, IfOk};
-ghost use Rattle.std.specs.Str.{IsAscii};
-ghost use Rattle.lock_files.specs.Read.{with_path, begun, stages_of, without_colon, read_line, path_in, book_in, lock_in, IsReading};
-ghost use Rattle.lock_files.specs.declared.read.LockFault.TheVariants.{NotLock};
+// Texts of locks, track files and entries, read: the first refusal, or the value.
+ghost use Rattle.std.specs.Prelude.{◌<◌, ◌+◌, ◌^◌, ◌==◌, [], count_by, IfOk};
+ghost use Rattle.yaml_print.specs.Sound.{IsPrintable};
+ghost use Rattle.lock_files.specs.Form.{IsEntry, IsTrack, IsBook};
+ghost use Rattle.lock_files.specs.Refused.{lock_refused, track_refused, entry_refused};
+ghost use Rattle.lock_files.specs.Value.{entry_in, lock_in, track_in};
+ghost use Rattle.lock_files.specs.Read as spec;
+ghost use Rattle.lock_files.specs.Read.{IsAnswer, value_unless};
 
-use crate::field::{path_in, text_of};
-use crate::form::is_stage_entry;
-use crate::print::print_book;
-use crate::{Entry, LockBook, PathEntries, PathEntry, is_name};
-use dvc_base::{NoMemory, Texts};
+use crate::refused::{check_entry, check_lock, check_track};
+use crate::value::{entry_in, lock_in, track_in};
+use crate::{Entry, LockBook, LockFault, Track};
+use dvc_base::{Node, YamlFault};
 use std::alloc::Global;
-use std::marker::Model;
+use yaml_profile::parse;
 
-/// Why a text was not read as a lock.
-#[derive(Clone, Copy, Debug, PartialEq, Eq)]
-pub enum LockFault {
-    /// Memory ran out.
-    NoMemory,
-    /// It is the text of no lock.
-    NotLock,
-}
-
-impl From<NoMemory> for LockFault {
-    ghost use Rattle.lock_files.specs.declared.read.LockFault.TheVariants.{NoMemory as Memory};
-
-    ghost from_gives = { λ _ fault. fault ≡ Memory };
-
-    fn from(_: NoMemory) -> LockFault {
-        LockFault::NoMemory
-    }
-}
-
-/// The book that a text is the printed form of, and no other book in form is; or no book in form has this text.
+/// The book of a lock's text, or the first refusal. The book is in form.
+#[tactic(auto, unfolding(crate::specs::Read::lock_read))]
 pub fn read_lock(alloc: Global, text: &[u8]) -> Result<LockBook, LockFault>
-    ensures read { IfOk result (λ book. lock_in text.now ≡ Some book) }
-    ensures refused { result ≡ Err NotLock → lock_in text.now ≡ None }
-    ensures only_book { IfOk result (λ book. IsReading text.now (Some book)) }
-    ensures no_book { result ≡ Err NotLock → IsReading text.now None }
+    requires { count_by (λ b. b == 10) text.now + 1 < 2 ^ 32 }
+    ensures exact { IsAnswer result (spec.lock_read text.now) }
+    ensures form { IfOk result IsBook }
 {
-    read_printed(alloc, text)
+    let node = node_of(alloc, text)?;
+    lock_of(alloc, &node)
 }
 
-// A text is read leniently, and the book is printed again: any other text than a lock's comes out changed.
-fn read_printed(alloc: Global, text: &[u8]) -> Result<LockBook, LockFault>
-    ensures read { IfOk result (λ book. lock_in text.now ≡ Some book) }
-    ensures refused { result ≡ Err NotLock → lock_in text.now ≡ None }
+/// What a track file's text says, or the first refusal.
+#[tactic(auto, unfolding(crate::specs::Read::track_read))]
+pub fn read_track(alloc: Global, text: &[u8]) -> Result<Track, LockFault>
+    requires { count_by (λ b. b == 10) text.now + 1 < 2 ^ 32 }
+    ensures exact { IsAnswer result (spec.track_read text.now) }
+    ensures form { IfOk result IsTrack }
 {
-    let book = book_in(alloc, text)?;
-    let printed = print_book(alloc, &book)?;
-    if printed.as_slice() != text {
-        return Err(LockFault::NotLock);
+    let node = node_of(alloc, text)?;
+    track_of(alloc, &node)
+}
+
+/// The entry of a text, or the first refusal.
+#[tactic(auto, unfolding(crate::specs::Read::entry_read))]
+pub fn read_entry(alloc: Global, text: &[u8]) -> Result<Entry, LockFault>
+    requires { count_by (λ b. b == 10) text.now + 1 < 2 ^ 32 }
+    ensures exact { IsAnswer result (spec.entry_read text.now) }
+    ensures form { IfOk result IsEntry }
+{
+    let node = node_of(alloc, text)?;
+    entry_of(alloc, &node)
+}
+
+// The node of a text, or why it has none.
+#[tactic(auto, unfolding(crate::specs::Read::node_read))]
+fn node_of(alloc: Global, text: &[u8]) -> Result<Node, LockFault>
+    requires { count_by (λ b. b == 10) text.now + 1 < 2 ^ 32 }
+    ensures exact { IsAnswer result (spec.node_read text.now) }
+    ensures printable { IfOk result IsPrintable }
+{
+    match parse(alloc, text) {
+        Ok(node) => Ok(node),
+        Err(YamlFault::NoMemory) => Err(LockFault::NoMemory),
+        Err(fault) => Err(LockFault::Yaml { fault }),
     }
+}
+
+fn lock_of(alloc: Global, node: &Node) -> Result<LockBook, LockFault>
+    requires printable { IsPrintable node.now }
+    ensures exact { IsAnswer result (value_unless (lock_refused node.now) (lock_in node.now)) }
+    ensures form { IfOk result IsBook }
+{
+    check_lock(alloc, node)?;
+    let book = lock_in(alloc, node)?;
     Ok(book)
 }
 
-// The book that a text is read as, whatever the text is.
-fn book_in(alloc: Global, text: &[u8]) -> Result<LockBook, NoMemory>
-    ensures exact { IfOk result (λ book. book ≡ book_in text.now) }
+fn track_of(alloc: Global, node: &Node) -> Result<Track, LockFault>
+    requires printable { IsPrintable node.now }
+    ensures exact { IsAnswer result (value_unless (track_refused node.now) (track_in node.now)) }
+    ensures form { IfOk result IsTrack }
 {
-    let mut reading = Reading::begun(alloc, LockBook::new(alloc), b"");
-    for line in text.split(|byte| *byte == b'\n') {
-        reading = reading.line(alloc, line)?;
-    }
-    reading.stages(alloc)
+    check_track(alloc, node)?;
+    let track = track_in(alloc, node)?;
+    Ok(track)
 }
 
-// What has been read: the stages that are whole, and the parts of the last one.
-#[derive(Drop)]
-struct Reading<'a> {
-    book: LockBook,
-    stage: &'a [u8],
-    command: &'a [u8],
-    deps: PathEntries,
-    outs: PathEntries,
-    in_outs: bool,
-    path: &'a [u8],
-    name: &'a [u8],
-}
-
-impl<'a> Model for Reading<'a> {
-    ghost use Rattle.lock_files.specs.Read.{Reading as Read};
-
-    ghost Value = { Read };
-
-    ghost view = { λ r. record { book = r.book; stage = r.stage.now; command = r.command.now; deps = r.deps; outs = r.outs; in_outs = r.in_outs; path = r.path.now; name = r.name.now } };
-}
-
-impl<'a> Reading<'a> {
-    // The last stage is begun: nothing but its name is read.
-    fn begun(alloc: Global, book: LockBook, stage: &'a [u8]) -> Reading<'a>
-        ensures exact { result ≡ begun book stage.now }
-    {
-        Reading {
-            book,
-            stage,
-            command: b"",
-            deps: PathEntries::new(alloc),
-            outs: PathEntries::new(alloc),
-            in_outs: false,
-            path: b"",
-            name: b"",
-        }
-    }
-
-    // A line more.
-    fn line(mut self, alloc: Global, line: &'a [u8]) -> Result<Reading<'a>, NoMemory>
-        ensures exact { IfOk result (λ after. after ≡ read_line self.entry line.now) }
-    {
-        if let Some(size) = line.strip_prefix(b"      size: ") {
-            let found = path_in(alloc, self.path, self.name, size)?;
-            return self.with_path(found);
-        }
-        if let Some(name) = line.strip_prefix(b"      md5: ") {
-            self.name = name;
-            return Ok(self);
-        }
-        if line.strip_prefix(b"      hash: ").is_some() {
-            return Ok(self);
-        }
-        if let Some(path) = line.strip_prefix(b"    - path: ") {
-            self.path = path;
-            return Ok(self);
-        }
-        if let Some(command) = line.strip_prefix(b"    cmd: ") {
-            self.command = command;
-            return Ok(self);
-        }
-        if line.strip_prefix(b"    deps:").is_some() {
-            self.in_outs = false;
-            return Ok(self);
-        }
-        if line.strip_prefix(b"    outs:").is_some() {
-            self.in_outs = true;
-            return Ok(self);
-        }
-        if let Some(stage) = line.strip_prefix(b"  ") {
-            return self.next_stage(alloc, without_colon(stage));
-        }
-        Ok(self)
-    }
-
-    // The last stage goes to the others, and this one is begun.
-    fn next_stage(self, alloc: Global, stage: &'a [u8]) -> Result<Reading<'a>, NoMemory>
-        ensures exact { IfOk result (λ after. after ≡ begun (stages_of self.entry) stage.now) }
-    {
-        let book = self.stages(alloc)?;
-        Ok(Reading::begun(alloc, book, stage))
-    }
-
-    // A path more, among the dependencies or the outputs. Its parts are cleared, so that none of them is tested twice:
-    // the time grows with the text's length alone.
-    fn with_path(mut self, found: Option<PathEntry>) -> Result<Reading<'a>, NoMemory>
-        ensures exact { IfOk result (λ after. after ≡ with_path self.entry found) }
-    {
-        self.path = b"";
-        self.name = b"";
-        let Some(path) = found else {
-            return Ok(self);
-        };
-        if self.in_outs {
-            self.outs.push(path)?;
-        } else {
-            self.deps.push(path)?;
-        }
-        Ok(self)
-    }
-
-    // All stages: the last one too, if it is in form.
-    fn stages(self, alloc: Global) -> Result<LockBook, NoMemory>
-        ensures exact { IfOk result (λ book. book ≡ stages_of self.entry) }
-    {
-        let Reading {
-            mut book,
-            stage,
-            command,
-            deps,
-            outs,
-            ..
-        } = self;
-        if is_name(stage) && is_stage_entry(command, deps.as_slice(), outs.as_slice()) {
-            let commands = one_command(alloc, command)?;
-            let stage = text_of(alloc, stage)?;
-            let entry = Entry {
-                commands,
-                deps,
-                outs,
-            };
-            book.set(alloc, stage.as_str(), entry)?;
-        }
-        Ok(book)
-    }
-}
-
-// A stage's name, behind which a colon stands.
-fn without_colon(text: &[u8]) -> &[u8]
-    ensures exact { result.now ≡ without_colon text.now }
+// An entry whose text is nothing else has no name.
+fn entry_of(alloc: Global, node: &Node) -> Result<Entry, LockFault>
+    requires printable { IsPrintable node.now }
+    ensures exact { IsAnswer result (value_unless (entry_refused [] node.now) (entry_in node.now)) }
+    ensures form { IfOk result IsEntry }
 {
-    &text[..text.len().saturating_sub(1)]
-}
-
-// A list of the one command.
-fn one_command(alloc: Global, command: &[u8]) -> Result<Texts, NoMemory>
-    requires ascii { IsAscii command.now }
-    ensures exact { IfOk result (λ commands. commands ≡ command.now ∷ []) }
-{
-    let mut commands = Texts::new(alloc);
-    commands.push(text_of(alloc, command)?)?;
-    Ok(commands)
+    check_entry(alloc, "", node)?;
+    let entry = entry_in(alloc, node)?;
+    Ok(entry)
 }

@@ -1,10 +1,13 @@
-// `dvc.lock`, read and printed.
-use dvc_base::{Name, NoMemory, Plain, Text, Texts};
-use lock_files::{Entry, LockBook, LockFault, PathEntries, PathEntry, print_lock, read_lock};
+// `dvc.lock` and track files, read and printed.
+use dvc_base::{Name, NoMemory, ParamFiles, Plain, Text, Texts};
+use lock_files::{
+    Entry, LockBook, LockFault, PathEntries, PathEntry, print_lock, print_track, read_lock,
+    read_track,
+};
 use std::alloc::Global;
 use std::test::Fail;
 
-const TWO_STAGES: &str = "schema: '2.0'
+const TWO_STAGES: &[u8] = b"schema: '2.0'
 stages:
   prepare:
     cmd: cp raw clean
@@ -29,31 +32,177 @@ stages:
       hash: md5
       md5: '1234567890123456789012345678e012'
       size: 18446744073709551615
+    params:
+      params.yaml:
+        depth: 3
+        rate: 0.10
     outs:
     - path: counted
       hash: md5
-      md5: e2345678901234567890123456789012
+      md5: e2345678901234567890123456789012.dir
       size: 10
+      nfiles: 2
 ";
 
-// Whether a text is no lock's.
-fn is_no_lock(alloc: Global, text: &str) -> bool {
-    read_lock(alloc, text.as_bytes()).err() == Some(LockFault::NotLock)
+// The same as another writer may have it: other orders, quotes and styles, comments and keys that nothing is asked of.
+const AS_OTHERS_WRITE: &[u8] = b"# by hand\r
+stages:\r
+  prepare:\r
+    outs: [{size: 0, md5: 12345678901234567890123456789012, hash: md5, path: clean, isexec: true}]\r
+    deps:\r
+      - md5: \"900150983cd24fb0d6963f7d28e17f72\"\r
+        path: 'raw'   # as it came\r
+        size: 3\r
+        hash: md5\r
+    cmd: [cp raw clean]\r
+  count:\r
+    cmd: sh count clean\r
+    desc: counts\r
+    params: {params.yaml: {rate: 0.10, depth: 3}}\r
+    deps:\r
+    - {path: count, hash: md5, md5: 1234567890123456789012345678e012, size: 18446744073709551615}\r
+    - {path: clean, hash: md5, md5: '12345678901234567890123456789012', size: 0}\r
+    outs:\r
+    - {path: counted, hash: md5, md5: e2345678901234567890123456789012.dir, size: 10, nfiles: 2}\r
+schema: 2.0\r
+";
+
+// All texts here are shorter, and so have few lines.
+const SHORT: usize = 4096;
+
+const TRACK: &[u8] = b"outs:
+- md5: 900150983cd24fb0d6963f7d28e17f72
+  size: 3
+  hash: md5
+  path: data.csv
+desc: as it came
+meta:
+  from: afar
+";
+
+// The text with one piece of it in place of another, which stands in it.
+fn changed(alloc: Global, text: &[u8], old: &str, new: &str) -> Result<String, Fail> {
+    let text = str::from_utf8(text)?;
+    Ok(text.replacen(alloc, old, new, 1)?)
 }
 
-// Whether the text is no lock's with one piece of it in place of another, which stands in it.
-fn is_spoiled(alloc: Global, old: &str, new: &str) -> bool {
-    match TWO_STAGES.replacen(alloc, old, new, 1) {
-        Ok(text) => is_no_lock(alloc, text.as_str()),
+fn says(fault: &LockFault, word: &str, key: &str) -> bool {
+    match fault {
+        LockFault::Yaml { fault } => word == fault.word(),
+        LockFault::Schema { key: found } => word == "schema" && key == found.as_str(),
+        LockFault::Unsupported { key: found } => word == "unsupported" && key == found.as_str(),
+        LockFault::Legacy => word == "legacy",
+        LockFault::NoMemory => false,
+    }
+}
+
+fn lock_is_refused(alloc: Global, text: &[u8], word: &str, key: &str) -> bool {
+    if text.len() > SHORT {
+        return false;
+    }
+    match read_lock(alloc, text) {
+        Ok(_) => false,
+        Err(fault) => says(&fault, word, key),
+    }
+}
+
+fn track_is_refused(alloc: Global, text: &[u8], word: &str, key: &str) -> bool {
+    if text.len() > SHORT {
+        return false;
+    }
+    match read_track(alloc, text) {
+        Ok(_) => false,
+        Err(fault) => says(&fault, word, key),
+    }
+}
+
+fn lock_prints_as(alloc: Global, text: &[u8], printed: &[u8]) -> bool {
+    if text.len() > SHORT {
+        return false;
+    }
+    let Ok(book) = read_lock(alloc, text) else {
+        return false;
+    };
+    match print_lock(alloc, &book) {
+        Ok(found) => found.as_slice() == printed,
         Err(_) => false,
     }
 }
 
-fn is_spoiled_by(alloc: Global, row: &str) -> bool {
-    match row.split_once(" => ") {
-        Some((old, new)) => is_spoiled(alloc, old, new),
-        None => false,
+fn track_prints_as(alloc: Global, text: &[u8], printed: &[u8]) -> bool {
+    if text.len() > SHORT {
+        return false;
     }
+    let Ok(track) = read_track(alloc, text) else {
+        return false;
+    };
+    match print_track(alloc, &track) {
+        Ok(found) => found.as_slice() == printed,
+        Err(_) => false,
+    }
+}
+
+#[test]
+fn a_lock_is_printed_in_one_form(rt: HostRuntime) -> Result<(), Fail> {
+    let alloc = rt.alloc();
+    assert!(rt; lock_prints_as(alloc, TWO_STAGES, TWO_STAGES));
+    assert!(rt; lock_prints_as(alloc, AS_OTHERS_WRITE, TWO_STAGES));
+    assert!(rt; lock_prints_as(alloc, b"", b"schema: '2.0'\nstages: {}\n"));
+    Ok(())
+}
+
+#[test]
+fn a_lock_is_refused_by_its_first_fault(rt: HostRuntime) -> Result<(), Fail> {
+    let alloc = rt.alloc();
+    for (old, new, word, key) in [
+        ("schema: '2.0'\n", "", "legacy", ""),
+        ("'2.0'", "2.1", "schema", "schema"),
+        ("stages:", "stage:", "schema", "stages"),
+        ("    cmd: cp raw clean\n", "", "schema", "cmd"),
+        ("cmd: cp raw clean", "cmd: []", "schema", "cmd"),
+        ("e17f72", "E17F72", "schema", "md5"),
+        ("size: 3", "size: -3", "schema", "size"),
+        ("size: 3", "size: 3\n      nfiles: 1", "schema", "nfiles"),
+        ("      nfiles: 2\n", "", "schema", "nfiles"),
+        ("path: count\n", "path: clean\n", "schema", "path"),
+        ("hash: md5", "hash: sha256", "unsupported", "hash"),
+        ("hash: md5", "cache: false", "legacy", ""),
+        ("size: 3", "push: false", "unsupported", "push"),
+        (
+            "      params.yaml:\n        depth: 3\n        rate: 0.10\n",
+            "      params.yaml: 1\n",
+            "schema",
+            "params.yaml",
+        ),
+        ("  count:", "  prepare:", "duplicate key", ""),
+        ("size: 3", "size: [3", "syntax", ""),
+    ] {
+        let text = changed(alloc, TWO_STAGES, old, new)?;
+        assert!(rt;
+            lock_is_refused(alloc, text.as_bytes(), word, key),
+            "at {new:?}"
+        );
+    }
+    Ok(())
+}
+
+#[test]
+fn a_track_file_keeps_its_other_keys(rt: HostRuntime) -> Result<(), Fail> {
+    let alloc = rt.alloc();
+    assert!(rt; track_prints_as(alloc, TRACK, TRACK));
+    for (old, new, word, key) in [
+        ("outs:", "out:", "schema", "outs"),
+        ("desc: as it came", "deps: []", "unsupported", "deps"),
+        ("desc: as it came", "wdir: ..", "unsupported", "wdir"),
+        ("  hash: md5\n", "", "legacy", ""),
+    ] {
+        let text = changed(alloc, TRACK, old, new)?;
+        assert!(rt;
+            track_is_refused(alloc, text.as_bytes(), word, key),
+            "at {new:?}"
+        );
+    }
+    Ok(())
 }
 
 fn path_entry(alloc: Global, path: &str, size: u64) -> Result<PathEntry, Fail> {
@@ -69,22 +218,19 @@ fn path_entry(alloc: Global, path: &str, size: u64) -> Result<PathEntry, Fail> {
     })
 }
 
-fn one_command(alloc: Global, command: &str) -> Result<Texts, Fail> {
-    Ok(Texts::of(alloc, &[command])?)
-}
-
-fn one_path(alloc: Global, path: &str, size: u64) -> Result<PathEntries, Fail> {
-    let mut paths = PathEntries::new(alloc);
-    paths.push(path_entry(alloc, path, size)?)?;
-    Ok(paths)
-}
-
 // An entry of one command, one dependency and one output.
 fn entry(alloc: Global, command: &str, size: u64) -> Result<Entry, Fail> {
+    let mut commands = Texts::new(alloc);
+    commands.push(Text::of(alloc, command)?)?;
+    let mut deps = PathEntries::new(alloc);
+    deps.push(path_entry(alloc, "raw", size)?)?;
+    let mut outs = PathEntries::new(alloc);
+    outs.push(path_entry(alloc, "clean", size)?)?;
     Ok(Entry {
-        commands: one_command(alloc, command)?,
-        deps: one_path(alloc, "raw", size)?,
-        outs: one_path(alloc, "clean", size)?,
+        commands,
+        deps,
+        params: ParamFiles::new(alloc),
+        outs,
     })
 }
 
@@ -93,52 +239,13 @@ fn copied<T: Plain>(alloc: Global, item: &T) -> Result<T, NoMemory> {
     item.copy(alloc)
 }
 
-fn prints_as(alloc: Global, book: &LockBook, text: &[u8]) -> bool {
-    match print_lock(alloc, book) {
-        Ok(printed) => printed.as_slice() == text,
-        Err(_) => false,
-    }
-}
-
-// The second stage of two, with its command, its last dependency and its one output.
-fn has_two_stages(book: &LockBook) -> bool {
-    match book.at(1) {
-        Some((stage, entry)) => book.len() == 2 && stage == "count" && counts(entry),
-        None => false,
-    }
-}
-
-fn counts(entry: &Entry) -> bool {
-    match (entry.commands.as_slice(), entry.deps.as_slice()) {
-        ([command], [_, dep]) => {
-            command.as_str() == "sh count clean"
-                && dep.path.as_str() == "count"
-                && dep.size == u64::MAX
-                && entry.outs.as_slice().len() == 1
-        }
-        _ => false,
-    }
-}
-
-#[test]
-fn two_stages_are_read_and_printed(rt: HostRuntime) -> Result<(), Fail> {
-    let alloc = rt.alloc();
-    let book = read_lock(alloc, TWO_STAGES.as_bytes())?;
-    assert!(rt; has_two_stages(&book) && prints_as(alloc, &book, TWO_STAGES.as_bytes()));
-    Ok(())
-}
-
-fn set(alloc: Global, book: &mut LockBook, stage: &str, entry: Entry) -> Result<(), Fail> {
-    book.set(alloc, stage, entry)?;
-    Ok(())
-}
-
 // Two stages, the first of which is set twice.
 fn fill(alloc: Global, book: &mut LockBook) -> Result<(), Fail> {
-    set(alloc, book, "prepare", entry(alloc, "cp raw clean", 1)?)?;
-    set(alloc, book, "count", entry(alloc, "wc raw", 2)?)?;
+    book.set(alloc, "prepare", entry(alloc, "cp raw clean", 1)?)?;
+    book.set(alloc, "count", entry(alloc, "wc raw", 2)?)?;
     let last = entry(alloc, "cp raw clean", 3)?;
-    set(alloc, book, "prepare", copied(alloc, &last)?)
+    book.set(alloc, "prepare", copied(alloc, &last)?)?;
+    Ok(())
 }
 
 fn is_filled(book: &LockBook) -> bool {
@@ -157,45 +264,11 @@ fn has_size(paths: &[PathEntry], size: u64) -> bool {
     }
 }
 
-fn is_filled_again(alloc: Global, book: &LockBook) -> Result<bool, Fail> {
-    let text = print_lock(alloc, book)?;
-    let again = read_lock(alloc, text.as_slice())?;
-    Ok(is_filled(&again))
-}
-
 #[test]
-fn a_book_is_filled_printed_and_read(rt: HostRuntime) -> Result<(), Fail> {
+fn a_book_is_filled(rt: HostRuntime) -> Result<(), Fail> {
     let alloc = rt.alloc();
     let mut book = LockBook::new(alloc);
-    assert!(rt; prints_as(alloc, &book, b"schema: '2.0'\nstages: {}\n"));
     fill(alloc, &mut book)?;
-    assert!(rt; is_filled_again(alloc, &book)?);
+    assert!(rt; is_filled(&book));
     Ok(())
-}
-
-// Pieces of the text, each with what makes it no lock's.
-const SPOILED: &str = "e17f72 => E17F72
-e17f72 => e17f7
-'12345678901234567890123456789012' => 12345678901234567890123456789012
-'1234567890123456789012345678e012' => 1234567890123456789012345678e012
-e2345678901234567890123456789012 => 'e2345678901234567890123456789012'
-18446744073709551615 => 18446744073709551616
-size: 3 => size: 03
-size: 3 => size: +3
-  count: =>   prepare:
-path: raw => path: null
-path: count => path: a
-cp raw clean => cp  raw
-'2.0' => \"2.0\"
-counted => count\u{e9}";
-
-#[test]
-fn other_texts_are_no_lock(rt: HostRuntime) {
-    let alloc = rt.alloc();
-    for row in SPOILED.split('\n') {
-        assert!(rt; is_spoiled_by(alloc, row), "at {row:?}");
-    }
-    assert!(rt; is_spoiled(alloc, "      size: 10\n", ""));
-    assert!(rt; is_spoiled(alloc, "size: 10\n", "size: 10"));
-    assert!(rt; is_no_lock(alloc, ""));
 }

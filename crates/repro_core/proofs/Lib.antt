@@ -1,4 +1,5 @@
 pub mod ApartLemmas
+pub mod FormLemmas
 pub mod KindLemmas
 pub mod LinesLemmas
 pub mod NamesLemmas

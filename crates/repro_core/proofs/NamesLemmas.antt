@@ -1,10 +1,9 @@
 -- The names of paths, one path after another.
 --     named_more      one more path has its name
---     named_stops     a path has none
---     sized_more      one more size fits into 64 bits
+--     named_halts     a path has none
 --     no_gap, same_names     files have names, and the same values have the same
 --     deps_named, deps_gap   dependencies that have names are files, and of others one is refused
-use Rattle.std.proofs.Common.{◌≡◌, ◌≢◌, ℕ, ◌+◌, ◌<◌, ◌^◌, List, [], ◌∷◌, ◌++◌, length, take, drop, get_or, map, refl, sym, ap, ◌∙◌, Option, Some, None}
+use Rattle.std.proofs.Common.{◌≡◌, ◌≢◌, ℕ, ◌+◌, ◌<◌, List, [], ◌∷◌, ◌++◌, length, take, drop, get_or, map, refl, sym, ap, ◌∙◌, Option, Some, None}
 use Rattle.std.proofs.lemmas.Option.{same_Some}
 use Rattle.std.proofs.lemmas.List.{take_more, drop_more, take-append-drop, get_or-map}
 use Rattle.std.specs.List.{AllByRecursion}
@@ -20,22 +19,21 @@ use Rattle.repro_laws.specs.Stage.{dep_paths, in_order}
 use Rattle.repro_laws.specs.Due.{refused_dep, dep_fault}
 use Rattle.repro_laws.specs.declared.stage.Stage.{Stage}
 use Rattle.repro_laws.specs.Entries.{named_path, in_front, named_paths}
-use Rattle.repro_laws.specs.Moments.{AreSized}
 use Rattle.repro_core.specs.Steps.{IsFound}
 use Rattle.repro_core.specs.declared.names.Found.{Found}
 use Rattle.repro_core.specs.declared.names.Found.TheVariants.{Names, Gap}
 use Rattle.repro_laws.proofs.AnewLemmas.{files_of_deps}
 use Rattle.repro_laws.proofs.OrderLemmas.{all_in_order, all_as_written}
-use Rattle.repro_laws.proofs.EntryLaw.{paths_push, paths_stop}
+use Rattle.repro_laws.proofs.EntryLaw.{paths_push, paths_halt}
 
 push_by : (t : Tree) (dir : Path) (texts : List (List ℕ)) (text : List ℕ) (entries : List PathEntry) (p : PathEntry) (o : Option Named) → named_paths t dir texts ≡ Some entries → named_of (value_at t (path_from dir text)) ≡ o → named_path text o ≡ Some p → named_paths t dir (texts ++ text ∷ []) ≡ Some (entries ++ p ∷ [])
 push_by t dir texts text entries p None so_far is e = absurd (cc)
 push_by t dir texts text entries p (Some n) so_far is e =
     paths_push t dir texts text entries n so_far is ∙ ap (λ (x : PathEntry). Some (entries ++ x ∷ [])) (same_Some _ p e)
 
-stop_by : (t : Tree) (dir : Path) (texts : List (List ℕ)) (text : List ℕ) (after : List (List ℕ)) (o : Option Named) → named_of (value_at t (path_from dir text)) ≡ o → named_path text o ≡ None → named_paths t dir (texts ++ text ∷ after) ≡ None
-stop_by t dir texts text after None is e = paths_stop t dir texts text after is
-stop_by t dir texts text after (Some n) is e = absurd (cc)
+halt_by : (t : Tree) (dir : Path) (texts : List (List ℕ)) (text : List ℕ) (after : List (List ℕ)) (o : Option Named) → named_of (value_at t (path_from dir text)) ≡ o → named_path text o ≡ None → named_paths t dir (texts ++ text ∷ after) ≡ None
+halt_by t dir texts text after None is e = paths_halt t dir texts text after is
+halt_by t dir texts text after (Some n) is e = absurd (cc)
 
 -- the path at a place is named by the text at it
 path_at : (dir : Path) (texts : List (List ℕ)) (paths : List Path) (i : ℕ) (text : List ℕ) (at : Path) → paths ≡ map (path_from dir) texts → i < length texts → text ≡ get_or texts i text → at ≡ get_or paths i at → at ≡ path_from dir text
@@ -50,18 +48,14 @@ named_more t dir texts paths i text at entries p named within here there so_far 
     ap (named_paths t dir) (take_more texts i text within ∙ ap (λ (x : List ℕ). take i texts ++ x ∷ []) (sym here))
     ∙ push_by t dir (take i texts) text entries p (named_of (value_at t (path_from dir text))) so_far refl e
 
-pub named_stops : (t : Tree) (dir : Path) (texts : List (List ℕ)) (paths : List Path) (i : ℕ) (text : List ℕ) (at : Path) → paths ≡ map (path_from dir) texts → i < length texts → text ≡ get_or texts i text → at ≡ get_or paths i at → None ≡ named_path text (named_of (value_at t at)) → named_paths t dir texts ≡ None
-named_stops t dir texts paths i text at named within here there found =
+pub named_halts : (t : Tree) (dir : Path) (texts : List (List ℕ)) (paths : List Path) (i : ℕ) (text : List ℕ) (at : Path) → paths ≡ map (path_from dir) texts → i < length texts → text ≡ get_or texts i text → at ≡ get_or paths i at → None ≡ named_path text (named_of (value_at t at)) → named_paths t dir texts ≡ None
+named_halts t dir texts paths i text at named within here there found =
     let same = path_at dir texts paths i text at named within here there in
     let e : named_path text (named_of (value_at t (path_from dir text))) ≡ None =
     ap (λ (x : Path). named_path text (named_of (value_at t x))) (sym same) ∙ sym found in
     let cut : texts ≡ take i texts ++ text ∷ drop (i + 1) texts =
     sym (take-append-drop i texts) ∙ ap (λ (x : List (List ℕ)). take i texts ++ x) (drop_more texts i text within ∙ ap (λ (x : List ℕ). x ∷ drop (i + 1) texts) (sym here)) in
-    ap (named_paths t dir) cut ∙ stop_by t dir (take i texts) text (drop (i + 1) texts) (named_of (value_at t (path_from dir text))) refl e
-
-pub sized_more : (entries : List PathEntry) (p : PathEntry) → AreSized entries → p.size < 2 ^ 64 → AreSized (entries ++ p ∷ [])
-sized_more [] p sized here = (here, tt)
-sized_more (e ∷ entries) p sized here = (sized.0, sized_more entries p sized.1 here)
+    ap (named_paths t dir) cut ∙ halt_by t dir (take i texts) text (drop (i + 1) texts) (named_of (value_at t (path_from dir text))) refl e
 
 -- ---- paths at which files stand
 

@@ -24,7 +24,7 @@ use Rattle.lock_files.specs.Book.{Lock, entry_of}
 use Rattle.repro_laws.specs.Stage.{job_of, dep_paths, IsReady}
 use Rattle.repro_laws.specs.Due.{dep_fault, outcome_fault, first_fault, following, lines_of, report, jobs_of_choice, jobs}
 use Rattle.repro_laws.specs.Entries.{present_entry}
-use Rattle.repro_laws.specs.Choices.{choice_by, choice_of, tree_next, due, turn_fault, fault_of}
+use Rattle.repro_laws.specs.Choices.{is_always_changed, choice_by, choice_of, tree_next, due, turn_fault, fault_of}
 use Rattle.dvc_base.specs.Answer.{IsAnswer, GainsFront, GainsAs, Gains}
 use Rattle.repro_laws.specs.Headline.{IsKept}
 use Rattle.repro_laws.specs.Moments.{is_record, InTurns}
@@ -38,8 +38,9 @@ use Rattle.repro_laws.proofs.OptionLemmas.{if_some, if_some_at}
 use Rattle.repro_core.proofs.TurnLemmas.{anew_itself}
 use Rattle.repro_core.proofs.RunLemmas.{turns_of_anew}
 
-pub chosen_here : (s : Stage) (t : Tree) (lock : Lock) (present : Option Entry) (chosen : Choice) → present_entry s t ≡ present → chosen ≡ choice_by (entry_of lock s.name) present → choice_of s t lock ≡ chosen
-chosen_here s t lock present chosen seen by = ap (choice_by (entry_of lock s.name)) seen ∙ sym by
+pub chosen_here : (s : Stage) (t : Tree) (lock : Lock) (present : Option Entry) (chosen : Choice) → present_entry s t ≡ present → chosen ≡ cond (is_always_changed s) Run (choice_by (entry_of lock s.name) present) → choice_of s t lock ≡ chosen
+chosen_here s t lock present chosen seen by =
+    ap (λ (o : Option Entry). cond (is_always_changed s) Run (choice_by (entry_of lock s.name) o)) seen ∙ sym by
 
 -- ---- what is due of one stage
 

@@ -2,7 +2,7 @@
 --     can_write                        the run leaves the place of the lock as it was
 --     moments_of_anew, moments_of_record     each moment is one of a turn
 --     entry_of_run, runs_of_record     what the run has read and made stands once the lock is written
---     stopped_early, left_of_record    the lock after a run that didn't end well
+--     halted_early, left_of_record    the lock after a run that didn't end well
 use Rattle.std.proofs.Common.{◌≡◌, ◌≢◌, ◌⊎◌, ℕ, true, false, List, [], ◌∷◌, ◌++◌, map, refl, sym, ap, subst, ◌∙◌, inl, inr, Option, Some, None, IfSome, Result, Ok, Err, IfErr, OnOk}
 use Rattle.std.specs.List.{AllByRecursion, flat_map}
 use Rattle.std.proofs.lemmas.Bool.{false≢true, false_from_ne_true, both_ways, or_parts, or_from}
@@ -15,7 +15,7 @@ use Rattle.world_api.specs.Tree.{Tree, Item, Value, folder, file, IsTree, item_a
 use Rattle.world_api.specs.Effect.{Effect, Outcome, gives, path_from, invocation_of, is_in_any}
 use Rattle.world_api.specs.History.{Fixed, Moment, History, Passes}
 use Rattle.world_api.specs.Calls.{IsFileAt, HasFolders, parent}
-use Rattle.world_api.specs.Writes.{is_at, IsSameUnder, IsMade, IsNewFile, IsNoFileAt, in_scratch, InScratch, InWrite, CanWrite}
+use Rattle.world_api.specs.Writes.{is_at, IsSameUnder, IsMade, IsNoFileAt, in_scratch, InScratch, CanWrite}
 use Rattle.world_api.specs.Layout.{dvc_path, tmp_path, lock_path}
 use Rattle.world_api.specs.declared.job.Job.{Job}
 use Rattle.world_api.proofs.HistoryLemmas.{keeps_paths_then, keeps_paths_in, passes_weaker, passes_on}
@@ -23,17 +23,18 @@ use Rattle.world_api.proofs.LaneLemmas.{apart_scratch}
 use Rattle.world_api.proofs.ValueLemmas.{value_same}
 use Rattle.world_api.proofs.WriteLemmas.{same_under_then, made_then_made, scratch_folder, scratch_same}
 use Rattle.world_api.proofs.TreeLemmas.{under_parent}
+use Rattle.dvc_base.specs.declared.data.ParamFile.{ParamFile}
 use Rattle.lock_files.specs.declared.entry.Entry.{Entry}
 use Rattle.lock_files.specs.Book.{Lock, set}
-use Rattle.lock_files.specs.Lock.{lock_text}
+use Rattle.lock_files.specs.Form.{IsEntry}
 use Rattle.repro_laws.specs.Stage.{job_of, dep_paths, stage_outs, in_order, IsReady}
 use Rattle.repro_laws.specs.Due.{dep_fault, refused_dep}
 use Rattle.repro_laws.specs.Entries.{named_paths, IsPresent}
 use Rattle.repro_laws.specs.Turns.{standing, Runs}
 use Rattle.repro_laws.specs.Headline.{IsKept}
 use Rattle.repro_laws.specs.declared.stage.Choice.TheVariants.{Run}
-use Rattle.repro_laws.specs.Moments.{is_record, in_turns, HaveRun, AreSized, IsEntryOf, IsRecorded, InTurns, IsNext, IsLeftLock}
-use Rattle.repro_core.specs.Steps.{in_anew, InAnew, record_kinds}
+use Rattle.repro_laws.specs.Moments.{is_record, in_turns, HaveRun, IsNewLock, IsEntryOf, IsRecorded, InTurns, IsNext, IsLeftLock}
+use Rattle.repro_core.specs.Steps.{in_anew, InAnew, InRecord, record_kinds}
 use Rattle.dvc_base.specs.Answer.{fault_in, IsAnswer}
 use Rattle.dvc_base.specs.Fault.{MayBe}
 use Rattle.repro_laws.specs.declared.stage.Stage.{Stage}
@@ -41,6 +42,7 @@ use Rattle.repro_laws.proofs.OrderLemmas.{all_in_order}
 use Rattle.repro_laws.proofs.AnewLemmas.{each_both, each_from, files_of_deps, deps_outside, outs_apart, roots_apart, job_outs}
 use Rattle.repro_laws.proofs.StepLaw.{same_given}
 use Rattle.repro_laws.proofs.EntryLaw.{present_all}
+use Rattle.repro_core.proofs.FormLemmas.{sized_paths}
 use Rattle.repro_core.proofs.NamesLemmas.{same_names}
 use Rattle.repro_core.proofs.ApartLemmas.{lock_no_root, lock_outside}
 use Rattle.repro_laws.proofs.RecordLemmas.{lock_no_scratch}
@@ -108,9 +110,9 @@ pub moments_of_anew : (s : Stage) (lock : Lock) (start now : History) → IsRead
 moments_of_anew s lock start now ready kept h =
     if_some start.present.aside.fixed.effect (λ effect. Passes (InTurns effect (s ∷ []) lock start.present now.present) start now) (λ effect told. passes_weaker (InAnew s start.present) (InTurns effect (s ∷ []) lock start.present now.present) start now (λ n k. turns_of_anew effect s lock start.present now.present n ready kept k) h)
 
-pub stopped_early : (s : Stage) (lock : Lock) (m n : Moment) (r : Result (Unit {0}) Fault) → IsReady s → IsKept is_record s → InAnew s m n → IfErr r (λ fault. IfSome m.aside.fixed.effect (λ effect. IsLeftLock effect s lock fault m n))
-stopped_early s lock m n (Ok done) ready kept h = tt
-stopped_early s lock m n (Err fault) ready kept h =
+pub halted_early : (s : Stage) (lock : Lock) (m n : Moment) (r : Result (Unit {0}) Fault) → IsReady s → IsKept is_record s → InAnew s m n → IfErr r (λ fault. IfSome m.aside.fixed.effect (λ effect. IsLeftLock effect s lock fault m n))
+halted_early s lock m n (Ok done) ready kept h = tt
+halted_early s lock m n (Err fault) ready kept h =
     if_some m.aside.fixed.effect (λ effect. IsLeftLock effect s lock fault m n) (λ effect told. inl (same_lock s m n ready kept h))
 
 -- ---- what stays of a tree at paths
@@ -145,39 +147,41 @@ pub record HasMade (s : Stage) (e : Entry) (m k : Moment) : Type 0 where
   pub commands : e.commands ≡ s.commands
   pub deps : named_paths m.tree s.dir (in_order s.deps) ≡ Some e.deps
   pub outs : named_paths k.tree s.dir (in_order s.outs) ≡ Some e.outs
-  pub deps_sized : AreSized e.deps
-  pub outs_sized : AreSized e.outs
+  pub params : e.params ≡ []
+  pub form : IsEntry e
 
 -- the write of the lock leaves the stage's paths alone
-deps_stay : (s : Stage) (e : Entry) (m k n : Moment) (bytes : List ℕ) → MayRun s m.tree → HasMade s e m k → InWrite lock_path bytes k n → AllByRecursion (λ p. item_at n.tree p ≡ item_at m.tree p) (dep_paths s)
-deps_stay s e m k n bytes may made write =
+deps_stay : (s : Stage) (e : Entry) (m k n : Moment) (written : Lock) → MayRun s m.tree → HasMade s e m k → InRecord written k n → AllByRecursion (λ p. item_at n.tree p ≡ item_at m.tree p) (dep_paths s)
+deps_stay s e m k n written may made write =
     each_then m.tree k.tree n.tree (dep_paths s)
     (each_both (λ p. is_in_any (stage_outs s) p ≡ false) (λ p. is_record p ≡ false) (λ p. item_at k.tree p ≡ item_at m.tree p) (dep_paths s) (λ p out own. made.anew.others.items p (or_from (is_in_any (stage_outs s) p) (in_scratch p) out (no_scratch_at p own))) (deps_outside (stage_outs s) (dep_paths s) may.ready.apart) may.kept.deps)
     (each_from (λ p. is_record p ≡ false) (λ p. item_at n.tree p ≡ item_at k.tree p) (dep_paths s) (λ p own. write.others.paths.items p own) may.kept.deps)
 
-outs_stay : (s : Stage) (e : Entry) (m k n : Moment) (bytes : List ℕ) → MayRun s m.tree → HasMade s e m k → InWrite lock_path bytes k n → AllByRecursion (λ p. value_at n.tree p ≡ value_at k.tree p) (stage_outs s)
-outs_stay s e m k n bytes may made write =
+outs_stay : (s : Stage) (e : Entry) (m k n : Moment) (written : Lock) → MayRun s m.tree → HasMade s e m k → InRecord written k n → AllByRecursion (λ p. value_at n.tree p ≡ value_at k.tree p) (stage_outs s)
+outs_stay s e m k n written may made write =
     values_stay k.tree n.tree (stage_outs s) made.files (each_from (λ p. is_record p ≡ false) (λ p. item_at n.tree p ≡ item_at k.tree p) (stage_outs s) (λ p own. write.others.paths.items p own) may.kept.outs)
 
-made_values : (effect : Effect) (s : Stage) (e : Entry) (m k n : Moment) (bytes : List ℕ) → m.aside.fixed.effect ≡ Some effect → MayRun s m.tree → HasMade s e m k → InWrite lock_path bytes k n → effect (invocation_of (job_of s) m.tree) ≡ gives (map (value_at n.tree) (stage_outs s))
-made_values effect s e m k n bytes told may made write =
+made_values : (effect : Effect) (s : Stage) (e : Entry) (m k n : Moment) (written : Lock) → m.aside.fixed.effect ≡ Some effect → MayRun s m.tree → HasMade s e m k → InRecord written k n → effect (invocation_of (job_of s) m.tree) ≡ gives (map (value_at n.tree) (stage_outs s))
+made_values effect s e m k n written told may made write =
     let at_end : effect (invocation_of (job_of s) m.tree) ≡ gives (map (value_at k.tree) (stage_outs s)) =
     if_some_at m.aside.fixed.effect (λ x. x (invocation_of (job_of s) m.tree) ≡ gives (map (value_at k.tree) (stage_outs s))) effect told made.values in
-    at_end ∙ ap gives (sym (same_values k.tree n.tree (stage_outs s) (outs_stay s e m k n bytes may made write)))
+    at_end ∙ ap gives (sym (same_values k.tree n.tree (stage_outs s) (outs_stay s e m k n written may made write)))
 
-still_present : (s : Stage) (e : Entry) (m k n : Moment) (bytes : List ℕ) → MayRun s m.tree → HasMade s e m k → InWrite lock_path bytes k n → IsPresent e s n.tree
-still_present s e m k n bytes may made write =
+still_present : (s : Stage) (e : Entry) (m k n : Moment) (written : Lock) → MayRun s m.tree → HasMade s e m k → InRecord written k n → IsPresent e s n.tree
+still_present s e m k n written may made write =
     let files = files_of_deps s.name m.tree (dep_paths s) may.deps in
-    let dep_values = values_stay m.tree n.tree (dep_paths s) files (deps_stay s e m k n bytes may made write) in
+    let dep_values = values_stay m.tree n.tree (dep_paths s) files (deps_stay s e m k n written may made write) in
     let deps = same_names m.tree n.tree s.dir (in_order s.deps) (all_in_order (path_from s.dir) (λ p. value_at n.tree p ≡ value_at m.tree p) s.deps dep_values) in
-    let outs = same_names k.tree n.tree s.dir (in_order s.outs) (all_in_order (path_from s.dir) (λ p. value_at n.tree p ≡ value_at k.tree p) s.outs (outs_stay s e m k n bytes may made write)) in
-    subst (λ (commands : List (List ℕ)). IsPresent (record { commands = commands; deps = e.deps; outs = e.outs }) s n.tree) (sym made.commands) (present_all s n.tree e.deps e.outs (deps ∙ made.deps) (outs ∙ made.outs))
+    let outs = same_names k.tree n.tree s.dir (in_order s.outs) (all_in_order (path_from s.dir) (λ p. value_at n.tree p ≡ value_at k.tree p) s.outs (outs_stay s e m k n written may made write)) in
+    let of_stage = present_all s n.tree e.deps e.outs (deps ∙ made.deps) (outs ∙ made.outs) in
+    let of_commands = subst (λ (commands : List (List ℕ)). IsPresent (record { commands = commands; deps = e.deps; params = []; outs = e.outs }) s n.tree) (sym made.commands) of_stage in
+    subst (λ (params : List ParamFile). IsPresent (record { commands = e.commands; deps = e.deps; params = params; outs = e.outs }) s n.tree) (sym made.params) of_commands
 
-pub entry_of_run : (effect : Effect) (s : Stage) (e : Entry) (m k n : Moment) (bytes : List ℕ) → m.aside.fixed.effect ≡ Some effect → MayRun s m.tree → HasMade s e m k → InWrite lock_path bytes k n → IsEntryOf effect (s ∷ []) m n (s, e)
-entry_of_run effect s e m k n bytes told may made write =
+pub entry_of_run : (effect : Effect) (s : Stage) (e : Entry) (m k n : Moment) (written : Lock) → m.aside.fixed.effect ≡ Some effect → MayRun s m.tree → HasMade s e m k → InRecord written k n → IsEntryOf effect (s ∷ []) m n (s, e)
+entry_of_run effect s e m k n written told may made write =
     let files = files_of_deps s.name m.tree (dep_paths s) may.deps in
     let given : invocation_of (job_of s) n.tree ≡ invocation_of (job_of s) m.tree =
-    same_given s m.tree n.tree may.ready files (deps_stay s e m k n bytes may made write) in
+    same_given s m.tree n.tree may.ready files (deps_stay s e m k n written may made write) in
     record {
       among = record { before = []; after = []; cut = refl };
       ran = record {
@@ -185,39 +189,39 @@ entry_of_run effect s e m k n bytes told may made write =
         after = [];
         ran = ap (λ (f : Fixed). f.ran) write.others.aside.fixed ∙ made.ran ∙ ap (λ (jobs : List Job). jobs ++ job_of s ∷ []) (sym (append-nil m.aside.fixed.ran));
       };
-      made = ap effect given ∙ made_values effect s e m k n bytes told may made write;
-      present = still_present s e m k n bytes may made write;
-      deps_sized = made.deps_sized;
-      outs_sized = made.outs_sized;
+      made = ap effect given ∙ made_values effect s e m k n written told may made write;
+      present = still_present s e m k n written may made write;
+      deps_sized = sized_paths e.deps made.form.deps;
+      outs_sized = sized_paths e.outs made.form.outs;
     }
 
 -- ---- the lock is written
 
-runs_of : (effect : Effect) (s : Stage) (e : Entry) (lock after : Lock) (m k n : Moment) (bytes : List ℕ) → m.aside.fixed.effect ≡ Some effect → MayRun s m.tree → HasMade s e m k → InWrite lock_path bytes k n → IsTree n.tree → after ≡ set lock s.name e → Runs is_record effect s (standing m.tree lock) (standing n.tree after)
-runs_of effect s e lock after m k n bytes told may made write stands remembered =
+runs_of : (effect : Effect) (s : Stage) (e : Entry) (lock after : Lock) (m k n : Moment) (written : Lock) → m.aside.fixed.effect ≡ Some effect → MayRun s m.tree → HasMade s e m k → InRecord written k n → IsTree n.tree → after ≡ set lock s.name e → Runs is_record effect s (standing m.tree lock) (standing n.tree after)
+runs_of effect s e lock after m k n written told may made write stands remembered =
     record {
       entry = e;
-      values = made_values effect s e m k n bytes told may made write;
-      present = still_present s e m k n bytes may made write;
+      values = made_values effect s e m k n written told may made write;
+      present = still_present s e m k n written may made write;
       lock = remembered;
       others = λ p out own. write.others.paths.items p own ∙ made.anew.others.items p (or_from (is_in_any (stage_outs s) p) (in_scratch p) out (no_scratch_at p own));
       stands = stands;
     }
 
-pub runs_of_record : (s : Stage) (e : Entry) (lock after : Lock) (m k n : Moment) (bytes : List ℕ) (r : Result (Unit {0}) Fault) → MayRun s m.tree → HasMade s e m k → InWrite lock_path bytes k n → IsTree n.tree → OnOk r (after ≡ set lock s.name e) → OnOk r (IfSome m.aside.fixed.effect (λ effect. Runs is_record effect s (standing m.tree lock) (standing n.tree after)))
-runs_of_record s e lock after m k n bytes (Err fault) may made write stands remembered = tt
-runs_of_record s e lock after m k n bytes (Ok done) may made write stands remembered =
-    if_some m.aside.fixed.effect (λ effect. Runs is_record effect s (standing m.tree lock) (standing n.tree after)) (λ effect told. runs_of effect s e lock after m k n bytes told may made write stands remembered)
+pub runs_of_record : (s : Stage) (e : Entry) (lock after : Lock) (m k n : Moment) (written : Lock) (r : Result (Unit {0}) Fault) → MayRun s m.tree → HasMade s e m k → InRecord written k n → IsTree n.tree → OnOk r (after ≡ set lock s.name e) → OnOk r (IfSome m.aside.fixed.effect (λ effect. Runs is_record effect s (standing m.tree lock) (standing n.tree after)))
+runs_of_record s e lock after m k n written (Err fault) may made write stands remembered = tt
+runs_of_record s e lock after m k n written (Ok done) may made write stands remembered =
+    if_some m.aside.fixed.effect (λ effect. Runs is_record effect s (standing m.tree lock) (standing n.tree after)) (λ effect told. runs_of effect s e lock after m k n written told may made write stands remembered)
 
 have_run_then : (s : Stage) (m k n : Moment) → HaveRun (s ∷ []) m k → n.aside.fixed ≡ k.aside.fixed → HaveRun (s ∷ []) m n
 have_run_then s m k n h same = record { jobs = h.jobs; ran = ap (λ (f : Fixed). f.ran) same ∙ h.ran; some = h.some }
 
-recorded : (effect : Effect) (s : Stage) (e : Entry) (lock : Lock) (m k end n : Moment) → IsSameUnder lock_path m k → IsEntryOf effect (s ∷ []) m end (s, e) → IsSameUnder lock_path k n ⊎ IsNewFile lock_path (lock_text (set lock s.name e)) n → IsSameUnder lock_path m n ⊎ IsRecorded effect (s ∷ []) lock m end n
+recorded : (effect : Effect) (s : Stage) (e : Entry) (lock : Lock) (m k end n : Moment) → IsSameUnder lock_path m k → IsEntryOf effect (s ∷ []) m end (s, e) → IsSameUnder lock_path k n ⊎ IsNewLock (set lock s.name e) n → IsSameUnder lock_path m n ⊎ IsRecorded effect (s ∷ []) lock m end n
 recorded effect s e lock m k end n before entry (inl same) = inl (same_under_then lock_path m k n before same)
 recorded effect s e lock m k end n before entry (inr new) =
     inr (record { entries = (s, e) ∷ []; some = λ none. absurd (cc); made = (entry, tt); stands = new })
 
-turns_of_write : (effect : Effect) (s : Stage) (e : Entry) (lock : Lock) (m k end n : Moment) → MayRun s m.tree → HasMade s e m k → IsEntryOf effect (s ∷ []) m end (s, e) → InWrite lock_path (lock_text (set lock s.name e)) k n → InTurns effect (s ∷ []) lock m end n
+turns_of_write : (effect : Effect) (s : Stage) (e : Entry) (lock : Lock) (m k end n : Moment) → MayRun s m.tree → HasMade s e m k → IsEntryOf effect (s ∷ []) m end (s, e) → InRecord (set lock s.name e) k n → InTurns effect (s ∷ []) lock m end n
 turns_of_write effect s e lock m k end n may made entry write =
     let anew = made.anew in
     let area = in_turns (s ∷ []) in
@@ -230,29 +234,29 @@ turns_of_write effect s e lock m k end n may made entry write =
       remembered = recorded effect s e lock m k end n (same_lock s m k may.ready may.kept anew) entry write.path;
     }
 
-pub moments_of_record : (s : Stage) (e : Entry) (lock : Lock) (start ran end : History) → MayRun s start.present.tree → HasMade s e start.present ran.present → Passes (InAnew s start.present) start ran → Passes (InWrite lock_path (lock_text (set lock s.name e)) ran.present) ran end → IfSome start.present.aside.fixed.effect (λ effect. Passes (InTurns effect (s ∷ []) lock start.present end.present) start end)
+pub moments_of_record : (s : Stage) (e : Entry) (lock : Lock) (start ran end : History) → MayRun s start.present.tree → HasMade s e start.present ran.present → Passes (InAnew s start.present) start ran → Passes (InRecord (set lock s.name e) ran.present) ran end → IfSome start.present.aside.fixed.effect (λ effect. Passes (InTurns effect (s ∷ []) lock start.present end.present) start end)
 moments_of_record s e lock start ran end may made anew write =
     let m = start.present in
-    let written = InWrite lock_path (lock_text (set lock s.name e)) ran.present in
+    let written = InRecord (set lock s.name e) ran.present in
     if_some m.aside.fixed.effect (λ effect. Passes (InTurns effect (s ∷ []) lock m end.present) start end) (λ effect told.
     let turns = InTurns effect (s ∷ []) lock m end.present in
-    let entry = entry_of_run effect s e m ran.present end.present (lock_text (set lock s.name e)) told may made write.now in
+    let entry = entry_of_run effect s e m ran.present end.present (set lock s.name e) told may made write.now in
     passes_on turns written start ran end (passes_weaker (InAnew s m) turns start ran (λ n k. turns_of_anew effect s lock m end.present n may.ready may.kept k) anew) (λ n w. turns_of_write effect s e lock m ran.present end.present n may made entry w) write)
 
 -- ---- the lock that is left where its write has failed
 
-left_by : (effect : Effect) (s : Stage) (e : Entry) (lock : Lock) (m k n : Moment) → IsSameUnder lock_path m k → IsEntryOf effect (s ∷ []) m n (s, e) → IsSameUnder lock_path k n ⊎ IsNewFile lock_path (lock_text (set lock s.name e)) n → IsLeftLock effect s lock WorldFault m n
+left_by : (effect : Effect) (s : Stage) (e : Entry) (lock : Lock) (m k n : Moment) → IsSameUnder lock_path m k → IsEntryOf effect (s ∷ []) m n (s, e) → IsSameUnder lock_path k n ⊎ IsNewLock (set lock s.name e) n → IsLeftLock effect s lock WorldFault m n
 left_by effect s e lock m k n before entry (inl same) = inl (same_under_then lock_path m k n before same)
 left_by effect s e lock m k n before entry (inr new) = inr (refl, e, entry, new)
 
-left_after : (effect : Effect) (s : Stage) (e : Entry) (lock : Lock) (m k n : Moment) (fault : Fault) → m.aside.fixed.effect ≡ Some effect → MayRun s m.tree → HasMade s e m k → InWrite lock_path (lock_text (set lock s.name e)) k n → MayBe record_kinds (Some fault) → (fault ≡ NoMemory → n ≡ k) → IsLeftLock effect s lock fault m n
+left_after : (effect : Effect) (s : Stage) (e : Entry) (lock : Lock) (m k n : Moment) (fault : Fault) → m.aside.fixed.effect ≡ Some effect → MayRun s m.tree → HasMade s e m k → InRecord (set lock s.name e) k n → MayBe record_kinds (Some fault) → (fault ≡ NoMemory → n ≡ k) → IsLeftLock effect s lock fault m n
 left_after effect s e lock m k n NoMemory told may made write kind same =
     inl (subst (IsSameUnder lock_path m) (sym (same refl)) (same_lock s m k may.ready may.kept made.anew))
 left_after effect s e lock m k n WorldFault told may made write kind same =
-    left_by effect s e lock m k n (same_lock s m k may.ready may.kept made.anew) (entry_of_run effect s e m k n (lock_text (set lock s.name e)) told may made write) write.path
+    left_by effect s e lock m k n (same_lock s m k may.ready may.kept made.anew) (entry_of_run effect s e m k n (set lock s.name e) told may made write) write.path
 left_after effect s e lock m k n _ told may made write kind same = absurd (false≢true kind)
 
-pub left_of_record : (s : Stage) (e : Entry) (lock : Lock) (m k n : Moment) (r : Result (Unit {0}) Fault) → MayRun s m.tree → HasMade s e m k → InWrite lock_path (lock_text (set lock s.name e)) k n → MayBe record_kinds (fault_in r) → (r ≡ Err NoMemory → n ≡ k) → IfErr r (λ fault. IfSome m.aside.fixed.effect (λ effect. IsLeftLock effect s lock fault m n))
+pub left_of_record : (s : Stage) (e : Entry) (lock : Lock) (m k n : Moment) (r : Result (Unit {0}) Fault) → MayRun s m.tree → HasMade s e m k → InRecord (set lock s.name e) k n → MayBe record_kinds (fault_in r) → (r ≡ Err NoMemory → n ≡ k) → IfErr r (λ fault. IfSome m.aside.fixed.effect (λ effect. IsLeftLock effect s lock fault m n))
 left_of_record s e lock m k n (Ok done) may made write kind same = tt
 left_of_record s e lock m k n (Err fault) may made write kind same =
     if_some m.aside.fixed.effect (λ effect. IsLeftLock effect s lock fault m n) (λ effect told. left_after effect s e lock m k n fault told may made write kind (λ none. same (cc)))
@@ -262,22 +266,22 @@ left_of_record s e lock m k n (Err fault) may made write kind same =
 file_no_folder : (bytes : List ℕ) → Some (file bytes) ≡ Some folder → ⊥
 file_no_folder bytes e = cc
 
-no_folder_then : (bytes : List ℕ) (k n : Moment) → IsSameUnder lock_path k n ⊎ IsNewFile lock_path bytes n → item_at k.tree lock_path ≢ Some folder → item_at n.tree lock_path ≢ Some folder
-no_folder_then bytes k n (inl same) none e = none (sym (same.items lock_path (under-refl lock_path)) ∙ e)
-no_folder_then bytes k n (inr new) none e = file_no_folder bytes (sym new.stands ∙ e)
+no_folder_then : (written : Lock) (k n : Moment) → IsSameUnder lock_path k n ⊎ IsNewLock written n → item_at k.tree lock_path ≢ Some folder → item_at n.tree lock_path ≢ Some folder
+no_folder_then written k n (inl same) none e = none (sym (same.items lock_path (under-refl lock_path)) ∙ e)
+no_folder_then written k n (inr new) none e = file_no_folder _ (sym new.file.stands ∙ e)
 
-can_write_again : (bytes : List ℕ) (k n : Moment) → InWrite lock_path bytes k n → CanWrite lock_path k.tree → CanWrite lock_path n.tree
-can_write_again bytes k n write before = record {
-  room = record { above = root_above_lock n.tree; no_folder = no_folder_then bytes k n write.path before.room.no_folder };
+can_write_again : (written : Lock) (k n : Moment) → InRecord written k n → CanWrite lock_path k.tree → CanWrite lock_path n.tree
+can_write_again written k n write before = record {
+  room = record { above = root_above_lock n.tree; no_folder = no_folder_then written k n write.path before.room.no_folder };
   no_file = no_file_then k n write.dvc before.no_file;
 }
 
 -- the lock has the stage's present entry, and may be written again
-pub next_of_record : (s : Stage) (e : Entry) (lock after : Lock) (m k n : Moment) (bytes : List ℕ) (r : Result (Unit {0}) Fault) → MayRun s m.tree → HasMade s e m k → InWrite lock_path bytes k n → CanWrite lock_path m.tree → OnOk r (after ≡ set lock s.name e) → OnOk r (IsNext s Run lock after n.tree)
-next_of_record s e lock after m k n bytes (Err fault) may made write place remembered = tt
-next_of_record s e lock after m k n bytes (Ok done) may made write place remembered = record {
-  after = (e, remembered, still_present s e m k n bytes may made write, made.deps_sized, made.outs_sized);
-  place = can_write_again bytes k n write (can_write s m k may.ready may.kept made.anew place);
+pub next_of_record : (s : Stage) (e : Entry) (lock after : Lock) (m k n : Moment) (written : Lock) (r : Result (Unit {0}) Fault) → MayRun s m.tree → HasMade s e m k → InRecord written k n → CanWrite lock_path m.tree → OnOk r (after ≡ set lock s.name e) → OnOk r (IsNext s Run lock after n.tree)
+next_of_record s e lock after m k n written (Err fault) may made write place remembered = tt
+next_of_record s e lock after m k n written (Ok done) may made write place remembered = record {
+  after = (e, remembered, still_present s e m k n written may made write, sized_paths e.deps made.form.deps, sized_paths e.outs made.form.outs);
+  place = can_write_again written k n write (can_write s m k may.ready may.kept made.anew place);
 }
 
 -- ---- the lane is begun before the run

@@ -1,8 +1,11 @@
 -- What each step of a turn leaves.
---     IsPlan s plan                    the plan has the stage's job, its paths and the lock's
+--     IsPrepared s prepared            what is prepared has the stage's job, its paths and the lock's
 --     .._kinds                         which faults each step may answer
 --     WasRun job name got m n          what a run of the job leaves, by the answer
-use Rattle.std.specs.Prelude.{◌≡◌, ◌≢◌, ◌<◌, ℕ, ℤ, pos, Bool, true, ◌||◌, List, [], ◌∷◌, map, Option, Some, None}
+--     InRecord lock m n                each moment of the write of a lock
+--     AreNamed texts entries           path entries in form, of these texts
+use Rattle.std.specs.Prelude.{◌≡◌, ◌≢◌, ◌⊎◌, ◌<◌, ℕ, ℤ, pos, Bool, true, ◌||◌, List, [], ◌∷◌, length, map, Option, Some, None, IsTrue}
+use Rattle.std.specs.List.{list_all}
 use Rattle.dvc_base.specs.Path.{Path}
 use Rattle.dvc_base.specs.declared.fault.Fault.{Fault}
 use Rattle.dvc_base.specs.declared.fault.Fault.TheVariants.{NoMemory, WorldFault, CommandFailed}
@@ -10,26 +13,30 @@ use Rattle.dvc_base.specs.declared.fault.FaultKind.{FaultKind}
 use Rattle.dvc_base.specs.declared.fault.FaultKind.TheVariants as k
 use Rattle.world_api.specs.Tree.{Tree, item_at}
 use Rattle.world_api.specs.Effect.{path_from, is_in_any}
-use Rattle.world_api.specs.History.{Moment, Stays, Grows, KeepsPaths, itself}
+use Rattle.world_api.specs.History.{Moment, Stays, Grows, Keeps, KeepsPaths, itself}
 use Rattle.world_api.specs.Calls.{IsRun}
 use Rattle.world_api.specs.declared.job.Job.{Job}
 use Rattle.repro_laws.specs.Stage.{job_of, dep_paths, stage_outs}
 use Rattle.repro_laws.specs.Entries.{named_paths, present_entry}
-use Rattle.repro_laws.specs.Moments.{HaveRun, AreSized}
+use Rattle.repro_laws.specs.Moments.{is_record, HaveRun, IsNewLock}
 use Rattle.world_api.specs.Layout.{dvc_path, lock_path}
-use Rattle.world_api.specs.Writes.{IsMade, in_scratch}
+use Rattle.world_api.specs.Writes.{IsMade, IsSameUnder, in_scratch}
+use Rattle.lock_files.specs.declared.entry.PathEntry.{PathEntry}
+use Rattle.lock_files.specs.Value.{path_at}
+use Rattle.lock_files.specs.Form.{is_path_entry}
+use Rattle.lock_files.specs.Book.{Lock}
 use Rattle.repro_laws.specs.declared.stage.Stage.{Stage}
-use Rattle.repro_core.specs.declared.plan.Plan.{Plan}
+use Rattle.repro_core.specs.declared.prepared.Prepared.{Prepared}
 use Rattle.repro_core.specs.declared.names.Found.{Found}
 use Rattle.repro_core.specs.declared.names.Found.TheVariants.{Names, Gap}
 use Rattle.repro_core.specs.declared.see.Seen.{Seen}
 
-pub record IsPlan (s : Stage) (plan : Plan) : Type 0 where
-  pub job : plan.job ≡ job_of s
-  pub looks : plan.looks ≡ dep_paths s
-  pub deps : plan.deps ≡ map (path_from s.dir) (job_of s).deps
-  pub outs : plan.outs ≡ stage_outs s
-  pub lock : plan.lock ≡ lock_path
+pub record IsPrepared (s : Stage) (prepared : Prepared) : Type 0 where
+  pub job : prepared.job ≡ job_of s
+  pub looks : prepared.looks ≡ dep_paths s
+  pub deps : prepared.deps ≡ map (path_from s.dir) (job_of s).deps
+  pub outs : prepared.outs ≡ stage_outs s
+  pub lock : prepared.lock ≡ lock_path
 
 -- nothing stands at or below the paths
 abbrev pub IsClear : Tree → List Path → Type 0
@@ -96,16 +103,27 @@ pub record InAnew (s : Stage) (m n : Moment) : Type 0 where
   pub book : Grows m.aside.book n.aside.book
   pub ran : HaveRun (s ∷ []) m n
 
+-- during the write of a lock: its path is as it was, or has just this lock
+pub record InRecord (lock : Lock) (m n : Moment) : Type 0 where
+  pub path : IsSameUnder lock_path m n ⊎ IsNewLock lock n
+  pub dvc : IsMade dvc_path m n
+  pub others : Keeps is_record m n
+
 -- ---- names
+
+-- path entries in form, one for each of the texts
+pub record AreNamed (texts : List (List ℕ)) (entries : List PathEntry) : Type 0 where
+  pub paths : map path_at entries ≡ texts
+  pub good : IsTrue (list_all is_path_entry entries)
 
 -- what a look at the texts of paths has found: a name for each of them, or one that is no file
 abbrev pub IsFound : Tree → Path → List (List ℕ) → Found → Type 0
 IsFound t dir texts (Names entries) = named_paths t dir texts ≡ Some entries
 IsFound t dir texts (Gap at) = named_paths t dir texts ≡ None
 
-abbrev pub IsInside : ℕ → Found → Type 0
-IsInside count (Names entries) = AreSized entries
-IsInside count (Gap at) = at < count
+abbrev pub IsInside : List (List ℕ) → Found → Type 0
+IsInside texts (Names entries) = AreNamed texts entries
+IsInside texts (Gap at) = at < length texts
 
 -- the dependencies' names, and the present entry
 pub record IsSeen (s : Stage) (t : Tree) (seen : Seen) : Type 0 where

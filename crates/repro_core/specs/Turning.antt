@@ -2,7 +2,7 @@
 -- and holds where the effect of commands is told.
 --     AnswersDue      it answers the refusal that is due of the stage, where one is
 --     TakesTurn       it leaves a turn of the choice
---     StopsTurn       what a refusal leaves of the lock
+--     HaltsTurn       what a refusal leaves of the lock
 --     RunsDue         the jobs that have run are those that are due
 --     ReportsDue      the lines that were taken are the report of what is due
 --     StaysInTurn     each moment is one of the turn
@@ -28,8 +28,8 @@ TakesTurn s choice lock after old new =
     IfSome old.present.aside.fixed.effect (λ effect.
     Turn is_record effect s choice (standing (tree_of old) lock) (standing (tree_of new) after))
 
-abbrev pub StopsTurn : Stage → Lock → Fault → History → History → Type 0
-StopsTurn s lock fault old new =
+abbrev pub HaltsTurn : Stage → Lock → Fault → History → History → Type 0
+HaltsTurn s lock fault old new =
     IfSome old.present.aside.fixed.effect (λ effect. IsLeftLock effect s lock fault old.present new.present)
 
 abbrev pub RunsDue : Stage → Lock → Option Fault → History → History → Type 0

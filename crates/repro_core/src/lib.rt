@@ -6,7 +6,7 @@ mod lines;
 mod looks;
 mod names;
 mod outcome;
-mod plan;
+mod prepared;
 mod record;
 mod run;
 mod see;

@@ -1,9 +1,10 @@
 // The names of what stands at a stage's paths.
-ghost use Rattle.std.specs.Prelude.{◌≡◌, ◌<◌, ◌^◌, [], ◌∷◌, length, map, IsTrue, IfOk, IfSome, IsErrOf};
+ghost use Rattle.std.specs.Prelude.{◌≡◌, [], ◌∷◌, map, IsTrue, IfOk, IfSome, IsErrOf};
 ghost use Rattle.dvc_base.specs.declared.fault.Fault.TheVariants.{WorldFault};
 ghost use Rattle.world_api.specs.Tree.{value_at};
 ghost use Rattle.world_api.specs.Effect.{path_from};
 ghost use Rattle.file_hash.specs.Naming.{named_of};
+ghost use Rattle.lock_files.specs.Form.{is_path_entry};
 ghost use Rattle.repro_laws.specs.Entries.{named_path};
 ghost use Rattle.world_api.specs.History.{IsCaused};
 ghost use Rattle.dvc_base.specs.Answer.{fault_in};
@@ -36,7 +37,7 @@ pub(crate) fn name_paths<F: ReadFiles>(
 ) -> Result<Found, Fault>
     requires named_by { paths.now ≡ map (path_from dir.now) texts.now }
     ensures found { IsTrue F.tells → IfOk result (IsFound (F.history files.old).present.tree dir.now texts.now) }
-    ensures inside { IfOk result (IsInside (length texts.now)) }
+    ensures inside { IfOk result (IsInside texts.now) }
     ensures unchanged { IsTrue F.tells → F.history files.new ≡ F.history files.old }
     ensures told { ChangesIn paths.now (fault_in result) }
     ensures kinds { MayBe name_kinds (fault_in result) }
@@ -62,7 +63,7 @@ fn name_path<F: ReadFiles>(
 ) -> Result<Option<PathEntry>, Fault>
     ensures named { IsTrue F.tells → IfOk result (λ entry.
         entry ≡ named_path text.now (named_of (value_at (F.history files.old).present.tree at.now))) }
-    ensures sized { IfOk result (λ entry. IfSome entry (λ p. p.size < 2 ^ 64)) }
+    ensures good { IfOk result (λ entry. IfSome entry (λ p. (p.path ≡ text.now) × IsTrue (is_path_entry p))) }
     ensures unchanged { IsTrue F.tells → F.history files.new ≡ F.history files.old }
     ensures told { ChangesIn (at.now ∷ []) (fault_in result) }
     ensures kinds { MayBe name_kinds (fault_in result) }

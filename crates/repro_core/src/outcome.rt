@@ -13,11 +13,11 @@ ghost use Rattle.repro_laws.specs.Moments.{is_record};
 ghost use Rattle.repro_laws.specs.Due.{dep_fault, outcome_fault};
 ghost use Rattle.dvc_base.specs.Answer.{fault_in, IsAnswer, Gains};
 ghost use Rattle.dvc_base.specs.Fault.{MayBe, IsHonest};
-ghost use Rattle.repro_core.specs.Steps.{IsPlan, IsClear, IsEndOf, WasRun, InAnew, end_kinds, effort_kinds};
+ghost use Rattle.repro_core.specs.Steps.{IsPrepared, IsClear, IsEndOf, WasRun, InAnew, end_kinds, effort_kinds};
 ghost use Rattle.repro_core.specs.Telling.{TellsOf, TellsOwn};
 
 use crate::looks::look_at_outputs;
-use crate::plan::Plan;
+use crate::prepared::Prepared;
 use dvc_base::{Failed, Fault, Plain, Rel, Text};
 use repro_laws::Stage;
 use std::alloc::Global;
@@ -28,11 +28,11 @@ pub(crate) fn run_anew<W: World>(
     alloc: Global,
     world: &mut W,
     stage: &Stage,
-    plan: &Plan,
+    prepared: &Prepared,
 ) -> Result<(), Fault>
     requires ready { IsReady stage.now }
     requires kept { IsKept is_record stage.now }
-    requires plan { IsPlan stage.now plan.now }
+    requires prepared { IsPrepared stage.now prepared.now }
     requires begun { IsTrue W.tells → IsFileAt (W.history world.old).present.tree (lane_path 0) }
     requires folders { IsTrue W.tells → HasFolders (job_of stage.now) (W.history world.old).present.tree }
     requires deps { IsTrue W.tells → dep_fault stage.now.name (W.history world.old).present.tree (dep_paths stage.now) ≡ None }
@@ -53,11 +53,11 @@ pub(crate) fn run_anew<W: World>(
     ensures kinds { MayBe effort_kinds (fault_in result) }
     ensures honest { IsHonest W.tells (fault_in result) }
 {
-    let Ok(()) = clear_outputs(world, plan.outs.as_slice()) else {
+    let Ok(()) = clear_outputs(world, prepared.outs.as_slice()) else {
         return Err(Fault::WorldFault);
     };
-    run_job(alloc, world, &stage.name, &plan.job)?;
-    look_at_outputs(alloc, world, &stage.name, plan.outs.as_slice())
+    run_job(alloc, world, &stage.name, &prepared.job)?;
+    look_at_outputs(alloc, world, &stage.name, prepared.outs.as_slice())
 }
 
 fn clear_outputs<W: World>(world: &mut W, outs: &[Rel]) -> Result<(), Failed>

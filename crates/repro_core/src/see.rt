@@ -6,15 +6,14 @@ ghost use Rattle.repro_laws.specs.Due.{dep_fault};
 ghost use Rattle.repro_laws.specs.Entries.{named_paths, present_entry};
 ghost use Rattle.dvc_base.specs.Answer.{fault_in, IsAnswer};
 ghost use Rattle.world_api.specs.History.{IsCaused};
-ghost use Rattle.repro_laws.specs.Moments.{AreSized};
 ghost use Rattle.dvc_base.specs.Fault.{MayBe, IsHonest};
-ghost use Rattle.repro_core.specs.Steps.{IsPlan, IsSeen, name_kinds, see_kinds};
+ghost use Rattle.repro_core.specs.Steps.{IsPrepared, IsSeen, AreNamed, name_kinds, see_kinds};
 ghost use Rattle.repro_core.specs.Telling.{TellsOwn, ChangesIn};
 
 use crate::looks::look_at_deps;
 use crate::names::{Found, name_paths};
-use crate::plan::Plan;
-use dvc_base::{Fault, Plain};
+use crate::prepared::Prepared;
+use dvc_base::{Fault, ParamFiles, Plain};
 use lock_files::{Entry, PathEntries};
 use repro_laws::Stage;
 use std::alloc::Global;
@@ -34,22 +33,22 @@ pub(crate) fn see<F: ReadFiles>(
     alloc: Global,
     files: &mut F,
     stage: &Stage,
-    plan: &Plan,
+    prepared: &Prepared,
 ) -> Result<Seen, Fault>
     requires ready { IsReady stage.now }
-    requires plan { IsPlan stage.now plan.now }
+    requires prepared { IsPrepared stage.now prepared.now }
     ensures answer { IsTrue F.tells → IsAnswer (fault_in result)
         (dep_fault stage.now.name (F.history files.old).present.tree (dep_paths stage.now)) }
     ensures seen { IsTrue F.tells → IfOk result (IsSeen stage.now (F.history files.old).present.tree) }
-    ensures sized { IfOk result (λ seen. AreSized seen.deps) }
+    ensures good { IfOk result (λ seen. AreNamed (job_of stage.now).deps seen.deps) }
     ensures unchanged { IsTrue F.tells → F.history files.new ≡ F.history files.old }
     ensures told { TellsOwn stage.now (fault_in result) }
     ensures kinds { MayBe see_kinds (fault_in result) }
     ensures honest { IsHonest F.tells (fault_in result) }
     ensures cause { IsCaused (F.faults files.old) (F.faults files.new) (IsErrOf result WorldFault) }
 {
-    let deps = name_deps(alloc, files, stage, plan)?;
-    let present = present_entry(alloc, files, stage, plan, &deps)?;
+    let deps = name_deps(alloc, files, stage, prepared)?;
+    let present = present_entry(alloc, files, stage, prepared, &deps)?;
     Ok(Seen { deps, present })
 }
 
@@ -59,25 +58,31 @@ fn name_deps<F: ReadFiles>(
     alloc: Global,
     files: &mut F,
     stage: &Stage,
-    plan: &Plan,
+    prepared: &Prepared,
 ) -> Result<PathEntries, Fault>
-    requires plan { IsPlan stage.now plan.now }
+    requires prepared { IsPrepared stage.now prepared.now }
     ensures answer { IsTrue F.tells → IsAnswer (fault_in result)
         (dep_fault stage.now.name (F.history files.old).present.tree (dep_paths stage.now)) }
     ensures named { IsTrue F.tells → IfOk result (λ deps.
         named_paths (F.history files.old).present.tree stage.now.dir (job_of stage.now).deps ≡ Some deps) }
-    ensures sized { IfOk result AreSized }
+    ensures good { IfOk result (AreNamed (job_of stage.now).deps) }
     ensures unchanged { IsTrue F.tells → F.history files.new ≡ F.history files.old }
     ensures told { TellsOwn stage.now (fault_in result) }
     ensures kinds { MayBe see_kinds (fault_in result) }
     ensures honest { IsHonest F.tells (fault_in result) }
     ensures cause { IsCaused (F.faults files.old) (F.faults files.new) (IsErrOf result WorldFault) }
 {
-    let paths = plan.deps.as_slice();
-    match name_paths(alloc, files, &stage.dir, plan.job.deps.as_slice(), paths)? {
+    let paths = prepared.deps.as_slice();
+    match name_paths(
+        alloc,
+        files,
+        &stage.dir,
+        prepared.job.deps.as_slice(),
+        paths,
+    )? {
         Found::Names(deps) => Ok(deps),
         Found::Gap(at) => {
-            look_at_deps(alloc, files, &stage.name, plan.looks.as_slice())?;
+            look_at_deps(alloc, files, &stage.name, prepared.looks.as_slice())?;
             // All are files after all: only over a world that doesn't tell its tree.
             Err(Fault::MissingDependency {
                 stage: stage.name.copy(alloc)?,
@@ -92,11 +97,11 @@ fn present_entry<F: ReadFiles>(
     alloc: Global,
     files: &mut F,
     stage: &Stage,
-    plan: &Plan,
+    prepared: &Prepared,
     deps: &PathEntries,
 ) -> Result<Option<Entry>, Fault>
     requires ready { IsReady stage.now }
-    requires plan { IsPlan stage.now plan.now }
+    requires prepared { IsPrepared stage.now prepared.now }
     requires named { IsTrue F.tells →
         named_paths (F.history files.old).present.tree stage.now.dir (job_of stage.now).deps ≡ Some deps.now }
     ensures present { IsTrue F.tells → IfOk result (λ entry.
@@ -107,11 +112,12 @@ fn present_entry<F: ReadFiles>(
     ensures honest { IsHonest F.tells (fault_in result) }
     ensures cause { IsCaused (F.faults files.old) (F.faults files.new) (IsErrOf result WorldFault) }
 {
-    let outs = plan.outs.as_slice();
-    match name_paths(alloc, files, &stage.dir, plan.job.outs.as_slice(), outs)? {
+    let outs = prepared.outs.as_slice();
+    match name_paths(alloc, files, &stage.dir, prepared.job.outs.as_slice(), outs)? {
         Found::Names(outs) => Ok(Some(Entry {
             commands: stage.commands.copy(alloc)?,
             deps: deps.copy(alloc)?,
+            params: ParamFiles::new(alloc),
             outs,
         })),
         Found::Gap(_) => Ok(None),

@@ -9,19 +9,21 @@ ghost use Rattle.world_api.specs.Outside.{tree_of};
 ghost use Rattle.world_api.specs.Calls.{HasFolders};
 ghost use Rattle.world_api.specs.Writes.{CanWrite};
 ghost use Rattle.world_api.specs.Layout.{lock_path};
+ghost use Rattle.lock_files.specs.Form.{IsBook};
 ghost use Rattle.repro_laws.specs.Stage.{job_of, dep_paths, IsReady};
 ghost use Rattle.repro_laws.specs.Due.{dep_fault, lines_of};
 ghost use Rattle.repro_laws.specs.Choices.{choice_of};
 ghost use Rattle.repro_laws.specs.Headline.{IsKept};
 ghost use Rattle.repro_laws.specs.Moments.{is_record, IsRemembered, IsNext};
+ghost use Rattle.repro_laws.specs.Sound.{IsRecordable};
 ghost use Rattle.repro_laws.specs.declared.stage.Choice.{Choice as AChoice};
-ghost use Rattle.repro_core.specs.Turning.{AnswersDue, TakesTurn, StopsTurn, RunsDue, ReportsDue, StaysInTurn};
-ghost use Rattle.repro_core.specs.Steps.{IsPlan, turn_kinds};
+ghost use Rattle.repro_core.specs.Turning.{AnswersDue, TakesTurn, HaltsTurn, RunsDue, ReportsDue, StaysInTurn};
+ghost use Rattle.repro_core.specs.Steps.{IsPrepared, turn_kinds};
 ghost use Rattle.repro_core.specs.Telling.{TellsOwn};
 
 use crate::choose::choose_turn;
 use crate::lines::put_choice;
-use crate::plan::{Plan, plan_of};
+use crate::prepared::{Prepared, prepared_of};
 use crate::run::run_and_record;
 use dvc_base::Fault;
 use lock_files::LockBook;
@@ -44,6 +46,8 @@ pub fn run_stage<W: World, K: Sink>(
 ) -> Result<Choice, Fault>
     requires ready { IsReady stage.now }
     requires kept { IsKept is_record stage.now }
+    requires recordable { IsRecordable stage.now }
+    requires form { IsBook lock.old }
     requires folders { IsTrue W.tells → HasFolders (job_of stage.now) (tree_of (W.history world.old)) }
     requires place { IsTrue W.tells → CanWrite lock_path (tree_of (W.history world.old)) }
 
@@ -61,9 +65,12 @@ pub fn run_stage<W: World, K: Sink>(
     ensures next { IsTrue W.tells → IfOk result (λ choice.
         IsNext stage.now choice lock.old lock.new (tree_of (W.history world.new))) }
 
-    // After any other answer the lock is as it was; where its publish failed it may have the stage's entry.
-    ensures stopped { IsTrue W.tells → IfErr result (λ fault.
-        StopsTurn stage.now lock.old fault (W.history world.old) (W.history world.new)) }
+    // The lock stays one that can be printed.
+    ensures form { IsBook lock.new }
+
+    // After any other answer the lock is as it was; where a call to the world failed it may have the stage's entry.
+    ensures halted { IsTrue W.tells → IfErr result (λ fault.
+        HaltsTurn stage.now lock.old fault (W.history world.old) (W.history world.new)) }
 
     // The job has run exactly where it is due, and the lines are the report of what is due.
     ensures ran { IsTrue W.tells →
@@ -96,8 +103,8 @@ pub fn run_stage<W: World, K: Sink>(
     ensures kinds { MayBe turn_kinds (fault_in result) }
     ensures honest { IsHonest W.tells (fault_in result) }
 {
-    let plan = plan_of(alloc, stage)?;
-    take_turn(alloc, world, lock, stage, &plan, out)
+    let prepared = prepared_of(alloc, stage)?;
+    take_turn(alloc, world, lock, stage, &prepared, out)
 }
 
 // The turn, with all at hand that takes memory.
@@ -106,14 +113,16 @@ fn take_turn<W: World, K: Sink>(
     world: &mut W,
     lock: &mut LockBook,
     stage: &Stage,
-    plan: &Plan,
+    prepared: &Prepared,
     out: &mut K,
 ) -> Result<Choice, Fault>
     requires ready { IsReady stage.now }
     requires kept { IsKept is_record stage.now }
+    requires recordable { IsRecordable stage.now }
+    requires form { IsBook lock.old }
     requires folders { IsTrue W.tells → HasFolders (job_of stage.now) (tree_of (W.history world.old)) }
     requires place { IsTrue W.tells → CanWrite lock_path (tree_of (W.history world.old)) }
-    requires plan { IsPlan stage.now plan.now }
+    requires prepared { IsPrepared stage.now prepared.now }
     ensures answer { IsTrue W.tells → AnswersDue stage.now lock.old (fault_in result) (W.history world.old) }
     ensures chosen { IsTrue W.tells → IfOk result (λ choice.
         choice_of stage.now (tree_of (W.history world.old)) lock.old ≡ choice) }
@@ -123,8 +132,9 @@ fn take_turn<W: World, K: Sink>(
         IsRemembered choice lock.new (W.history world.old) (W.history world.new)) }
     ensures next { IsTrue W.tells → IfOk result (λ choice.
         IsNext stage.now choice lock.old lock.new (tree_of (W.history world.new))) }
-    ensures stopped { IsTrue W.tells → IfErr result (λ fault.
-        StopsTurn stage.now lock.old fault (W.history world.old) (W.history world.new)) }
+    ensures form { IsBook lock.new }
+    ensures halted { IsTrue W.tells → IfErr result (λ fault.
+        HaltsTurn stage.now lock.old fault (W.history world.old) (W.history world.new)) }
     ensures ran { IsTrue W.tells →
         RunsDue stage.now lock.old (fault_in result) (W.history world.old) (W.history world.new) }
     ensures report { IsTrue W.tells → IsTrue K.tells →
@@ -145,12 +155,12 @@ fn take_turn<W: World, K: Sink>(
     ensures kinds { MayBe turn_kinds (fault_in result) }
     ensures honest { IsHonest W.tells (fault_in result) }
 {
-    let chosen = choose_turn(alloc, world, lock, stage, plan)?;
+    let chosen = choose_turn(alloc, world, lock, stage, prepared)?;
     put_choice(alloc, stage, chosen.choice, out)?;
     match chosen.choice {
         Choice::Skip => Ok(Choice::Skip),
         Choice::Run => {
-            run_and_record(alloc, world, lock, stage, plan, chosen.deps)?;
+            run_and_record(alloc, world, lock, stage, prepared, chosen.deps)?;
             Ok(Choice::Run)
         }
     }

@@ -15,7 +15,8 @@ ghost use Rattle.repro_laws.specs.Turns.{standing};
 ghost use Rattle.repro_laws.specs.Headline.{IsPlanned, LeavesAnew};
 ghost use Rattle.repro_laws.specs.Moments.{is_record, InTurns};
 ghost use Rattle.world_api.specs.Layout.{lock_path};
-ghost use Rattle.repro_laws.specs.Sound.{lock_of, IsRecordable, IsSafe, IsStopped, IsReport};
+ghost use Rattle.lock_files.specs.Form.{IsBook};
+ghost use Rattle.repro_laws.specs.Sound.{lock_of, IsRecordable, AreReliable, AreHalted, IsReport};
 
 use crate::turn::run_stage;
 use dvc_base::Fault;
@@ -36,28 +37,30 @@ pub fn repro<W: World, K: Sink>(
 ) -> Result<(), Fault>
     requires planned { (t : Tree) → IsPlanned is_record stages.now t }
     requires recordable { AllByRecursion IsRecordable stages.now }
+    requires form { IsBook lock.old }
     requires lock { IsTrue W.tells → lock_of (W.history world.old).present.tree ≡ Some lock.old }
     requires place { IsTrue W.tells → CanWrite lock_path (W.history world.old).present.tree }
 
     // Ok leaves the outputs and the lock's entries of running every stage anew, and all else as before: where what was
     // remembered is true, and no two contents met share an MD5.
     ensures headline { IsTrue W.tells → OnOk result (IfSome (W.history world.old).present.aside.fixed.effect (λ effect.
-        IsSafe effect stages.now lock.old (W.history world.old).present (W.history world.new).present →
+        AreReliable effect stages.now lock.old (W.history world.old).present (W.history world.new).present →
         LeavesAnew is_record effect stages.now
         (standing (W.history world.old).present.tree lock.old) (standing (W.history world.new).present.tree lock.new))) }
     ensures remembered { IsTrue W.tells → OnOk result (lock_of (W.history world.new).present.tree ≡ Some lock.new) }
+    ensures form { IsBook lock.new }
 
     // It answers the refusal that is due, where one is, and else Ok; the jobs and the lines are those that are due.
     ensures answer { IsTrue W.tells → IfSome (W.history world.old).present.aside.fixed.effect (λ effect.
-        IsSafe effect stages.now lock.old (W.history world.old).present (W.history world.new).present →
+        AreReliable effect stages.now lock.old (W.history world.old).present (W.history world.new).present →
         IsAnswer (fault_in result) (fault_of effect stages.now (W.history world.old).present.tree lock.old)) }
     ensures ran { IsTrue W.tells → IfSome (W.history world.old).present.aside.fixed.effect (λ effect.
-        IsSafe effect stages.now lock.old (W.history world.old).present (W.history world.new).present →
+        AreReliable effect stages.now lock.old (W.history world.old).present (W.history world.new).present →
         Gains (fault_in result) (W.history world.old).present.aside.fixed.ran
         (jobs (due effect stages.now (W.history world.old).present.tree lock.old))
         (W.history world.new).present.aside.fixed.ran) }
     ensures report { IsTrue W.tells → IsTrue K.tells → IfSome (W.history world.old).present.aside.fixed.effect (λ effect.
-        IsSafe effect stages.now lock.old (W.history world.old).present (W.history world.new).present →
+        AreReliable effect stages.now lock.old (W.history world.old).present (W.history world.new).present →
         Gains (fault_in result) (K.taken out.old)
         (report (due effect stages.now (W.history world.old).present.tree lock.old)) (K.taken out.new)) }
 
@@ -69,11 +72,11 @@ pub fn repro<W: World, K: Sink>(
         due effect stages.now (W.history world.old).present.tree lock.old ≡ [] →
         W.history world.new ≡ W.history world.old) }
 
-    // After any other answer the lock has the entries of the turns that ended, and that of the next one only where its
-    // publish failed.
-    ensures stopped { IsTrue W.tells → IfErr result (λ fault.
+    // After any other answer the lock has the entries of the turns that ended, and that of the next one only where a
+    // call to the world failed.
+    ensures halted { IsTrue W.tells → IfErr result (λ fault.
         IfSome (W.history world.old).present.aside.fixed.effect (λ effect.
-        IsStopped effect stages.now lock.old fault (W.history world.old).present (W.history world.new).present)) }
+        AreHalted effect stages.now lock.old fault (W.history world.old).present (W.history world.new).present)) }
 
     // In each moment only the outputs and the tool's own files are touched, and the lock is as it was, or has the entries
     // of runs that have ended.

@@ -17,9 +17,10 @@ use Rattle.repro_laws.specs.Stage.{job_of, dep_paths, stage_outs, IsReady}
 use Rattle.repro_laws.specs.Anew.{without, anew_step}
 use Rattle.repro_laws.specs.Due.{refused_dep, dep_fault, refused_out, out_fault, outcome_fault, first_fault, following, lines_of, report, jobs_of_choice, jobs}
 use Rattle.repro_laws.specs.Entries.{present_entry}
+use Rattle.lock_files.specs.declared.entry.Entry.{Entry}
 use Rattle.lock_files.specs.Book.{Lock, entry_of}
 use Rattle.repro_laws.specs.Lock.{is_among}
-use Rattle.repro_laws.specs.Choices.{choice_by, choice_of, lock_after, tree_next, due, turn_fault, fault_of}
+use Rattle.repro_laws.specs.Choices.{choice_by, is_always_changed, choice_of, lock_after, tree_next, due, turn_fault, fault_of}
 use Rattle.repro_laws.specs.Turns.{Standing, stages_of}
 use Rattle.repro_laws.specs.Headline.{IsKept, Front}
 use Rattle.repro_laws.specs.declared.stage.Stage.{Stage}
@@ -38,6 +39,10 @@ no_refusal : (name : List ℕ) (t : Tree) (ps : List Path) → AllByRecursion (I
 no_refusal name t [] files = refl
 no_refusal name t (p ∷ ps) files =
     ap (λ (o : Option Item). refused_dep name o p (dep_fault name t ps)) files.0.1 ∙ no_refusal name t ps files.1
+
+-- the choice by the present entry alone
+abbrev choice_with : Stage → Lock → Option Entry → Choice
+choice_with s lock present = cond (is_always_changed s) Run (choice_by (entry_of lock s.name) present)
 
 due_one : (effect : Effect) (s : Stage) (c : Choice) (more : List Stage) (d : Tree) (lock : Lock) (next : Tree) (after : Lock) (tail : List (Stage × Choice)) → dep_fault s.name d (dep_paths s) ≡ None → choice_of s d lock ≡ c → tree_next effect s d ≡ Some next → lock_after c lock s.name (present_entry s next) ≡ after → due effect more next after ≡ tail → due effect (s ∷ more) d lock ≡ (s, c) ∷ tail
 due_one effect s c more d lock next after tail none chosen step left rest =
@@ -136,7 +141,7 @@ due_law records effect all t (c ∷ cs) rest m n d line lefts follows =
     let none = no_refusal s.name d (dep_paths s) (files_before k.tree d (dep_paths s) done.left.deps before) in
     let ended = no_failure records effect s m.tree k.tree d ready done.left before in
     let chosen : choice_of s d m.lock ≡ c.1 =
-    ap (choice_by (entry_of m.lock s.name)) (present_same s m.tree d ready same.deps same.outs) ∙ done.chosen in
+    ap (choice_with s m.lock) (present_same s m.tree d ready same.deps same.outs) ∙ done.chosen in
     let made : tree_next effect s d ≡ Some step.tree = next_made effect s d step.tree ended step.step in
     let after = follows_at records all t s k.tree step.tree kept step.follows in
     let present : present_entry s step.tree ≡ Some done.turned.entry =
@@ -212,7 +217,7 @@ IsSameBut records t u = (p : Path) → records p ≡ false → item_at t p ≡ i
 
 pub choice_next : (records : Path → Bool) (s : Stage) (t u : Tree) (lock : Lock) → IsReady s → IsKept records s → IsSameBut records t u → choice_of s u lock ≡ choice_of s t lock
 choice_next records s t u lock ready kept same =
-    ap (choice_by (entry_of lock s.name)) (present_same s t u ready (each_from (λ p. records p ≡ false) (λ p. item_at u p ≡ item_at t p) (dep_paths s) (λ p k. sym (same p k)) kept.deps) (each_from (λ p. records p ≡ false) (λ p. item_at u p ≡ item_at t p) (stage_outs s) (λ p k. sym (same p k)) kept.outs))
+    ap (choice_with s lock) (present_same s t u ready (each_from (λ p. records p ≡ false) (λ p. item_at u p ≡ item_at t p) (dep_paths s) (λ p k. sym (same p k)) kept.deps) (each_from (λ p. records p ≡ false) (λ p. item_at u p ≡ item_at t p) (stage_outs s) (λ p k. sym (same p k)) kept.outs))
 
 dep_fault_same : (name : List ℕ) (t u : Tree) (ps : List Path) → AllByRecursion (λ p. item_at u p ≡ item_at t p) ps → dep_fault name u ps ≡ dep_fault name t ps
 dep_fault_same name t u [] same = refl

@@ -1,9 +1,9 @@
 -- How turns end: all of them well, or the last one with a refusal.
 --     IsEnded, ended_headline      all turns have ended: the headline
---     IsRefused, IsStop            a turn was refused after others have ended
---     stop_stopped, stop_moments   what that leaves
---     stop_answer, stop_gains      and what it has to do with what is due, where what is met is safe
---     told_all, told_stop          the lines, over a world that tells nothing
+--     IsRefused, IsHalt            a turn was refused after others have ended
+--     halt_halted, halt_moments   what that leaves
+--     halt_answer, halt_gains      and what it has to do with what is due, where what is met is safe
+--     told_all, told_halt          the lines, over a world that tells nothing
 use Rattle.std.proofs.Common.{◌≡◌, ℕ, Bool, false, List, [], ◌∷◌, ◌++◌, ◌⊎◌, inl, inr, refl, sym, ap, subst, ◌∙◌, append_assoc, Some, None, IfSome, IsTrue}
 use Rattle.std.specs.Prelude.{bytes_eq}
 use Rattle.std.specs.List.{AllByRecursion}
@@ -25,7 +25,7 @@ use Rattle.dvc_base.specs.Answer.{IsAnswer, Gains, GainsFront}
 use Rattle.repro_laws.specs.Turns.{standing, stages_of}
 use Rattle.repro_laws.specs.Headline.{IsKept, IsPlanned, IsMet, IsFront, LeavesAnew}
 use Rattle.repro_laws.specs.Moments.{is_record, in_turns, IsEntryOf, IsLeftLock, InTurns}
-use Rattle.repro_laws.specs.Sound.{lock_of, IsRecordable, IsMetSince, IsSafe, IsStopped, IsReport}
+use Rattle.repro_laws.specs.Sound.{lock_of, IsMetSince, AreReliable, AreHalted, IsReport}
 use Rattle.repro_laws.specs.declared.stage.Stage.{Stage}
 use Rattle.repro_laws.specs.declared.stage.Choice.{Choice}
 use Rattle.repro_laws.specs.declared.stage.Choice.TheVariants.{Run}
@@ -36,7 +36,7 @@ use Rattle.repro_laws.proofs.LeftsLaw.{covers_back}
 use Rattle.repro_laws.proofs.DueLaw.{front}
 use Rattle.repro_laws.proofs.HeadlineLaw.{headline}
 use Rattle.repro_laws.proofs.MomentLaw.{IsApart, stays_apart, turns_wider}
-use Rattle.repro_laws.proofs.LockOfLemmas.{lock_of_same, lock_of_new, lock_of_book, set_good}
+use Rattle.repro_laws.proofs.LockOfLemmas.{lock_of_same, lock_of_new}
 use Rattle.repro_laws.proofs.GainLemmas.{answer_on, gains_then}
 use Rattle.repro_laws.proofs.NextLaw.{due_here}
 use Rattle.repro_laws.proofs.SoFarLemmas.{SoFar, IsTold, stages_append, moments_more}
@@ -61,7 +61,7 @@ pub record IsDueAll (effect : Effect) (stages : List Stage) (old lock : Lock) (c
   pub due : choices ≡ due effect stages a.present.tree old
   pub fault : fault_of effect stages a.present.tree old ≡ None
 
-pub ended_headline : (effect : Effect) (stages : List Stage) (old lock : Lock) (a n : History) (tells : Bool) (before taken : List ℕ) → (h : IsEnded effect stages old lock a n tells before taken) → IsSafe effect stages old a.present n.present → IsDueAll effect stages old lock h.so_far.choices a n
+pub ended_headline : (effect : Effect) (stages : List Stage) (old lock : Lock) (a n : History) (tells : Bool) (before taken : List ℕ) → (h : IsEnded effect stages old lock a n tells before taken) → AreReliable effect stages old a.present n.present → IsDueAll effect stages old lock h.so_far.choices a n
 ended_headline effect stages old lock a n tells before taken h safe =
     let so = h.so_far in
     let book = safe.book in
@@ -99,13 +99,12 @@ refused_at effect s fault lock k n tells mid taken known answer left ran lines f
     }
 
 -- the turns of some stages have ended, and the next one's was refused
-pub record IsStop (effect : Effect) (done : List Stage) (s : Stage) (rest : List Stage) (fault : Fault) (old lock : Lock) (a k n : History) (tells : Bool) (before mid taken : List ℕ) : Type 0 where
+pub record IsHalt (effect : Effect) (done : List Stage) (s : Stage) (rest : List Stage) (fault : Fault) (old lock : Lock) (a k n : History) (tells : Bool) (before mid taken : List ℕ) : Type 0 where
   pub so_far : SoFar effect done old lock a k tells before mid
   pub refused : IsRefused effect s fault lock k n tells mid taken
   pub apart : AllByRecursion (λ x. IsApart x s) done
   pub ready : IsReady s
   pub kept : IsKept is_record s
-  pub recordable : IsRecordable s
   pub plan : IsPlanned is_record (done ++ s ∷ rest) a.present.tree
   pub tree : IsTree a.present.tree
   pub read : lock_of k.present.tree ≡ Some lock
@@ -117,12 +116,10 @@ abbrev IsLeftRead : Effect → Fault → Lock → Stage → Moment → Moment �
 IsLeftRead effect fault lock s m n =
     (lock_of n.tree ≡ Some lock) ⊎ ((fault ≡ WorldFault) × (e : Entry) × IsEntryOf effect (s ∷ []) m n (s, e) × (lock_of n.tree ≡ Some (set lock s.name e)))
 
-left_read : (effect : Effect) (s : Stage) (fault : Fault) (lock : Lock) (k n : Moment) → IsRecordable s → lock_of k.tree ≡ Some lock → IsLeftLock effect s lock fault k n → IsLeftRead effect fault lock s k n
-left_read effect s fault lock k n recordable read (inl same) = inl (lock_of_same k n same ∙ read)
-left_read effect s fault lock k n recordable read (inr left) =
-    let made = left.2 in
-    let good = set_good s n.tree lock left.1 recordable (lock_of_book k.tree lock read) made.present made.deps_sized made.outs_sized in
-    inr (left.0, left.1, made, lock_of_new (set lock s.name left.1) n good left.3)
+left_read : (effect : Effect) (s : Stage) (fault : Fault) (lock : Lock) (k n : Moment) → lock_of k.tree ≡ Some lock → IsLeftLock effect s lock fault k n → IsLeftRead effect fault lock s k n
+left_read effect s fault lock k n read (inl same) = inl (lock_of_same k n same ∙ read)
+left_read effect s fault lock k n read (inr left) =
+    inr (left.0, left.1, left.2, lock_of_new (set lock s.name left.1) n left.3)
 
 entry_since : (effect : Effect) (s : Stage) (e : Entry) (a k n : Moment) (before : List Job) → k.aside.fixed.ran ≡ a.aside.fixed.ran ++ before → IsEntryOf effect (s ∷ []) k n (s, e) → IsEntryOf effect (s ∷ []) a n (s, e)
 entry_since effect s e a k n before so_far h =
@@ -182,8 +179,8 @@ met_before book (x ∷ xs) s rest lock m k n apart keeps others met =
 
 -- ---- what it leaves
 
-pub stop_stopped : (effect : Effect) (done : List Stage) (s : Stage) (rest : List Stage) (fault : Fault) (old lock : Lock) (a k n : History) (tells : Bool) (before mid taken : List ℕ) → IsStop effect done s rest fault old lock a k n tells before mid taken → IsStopped effect (done ++ s ∷ rest) old fault a.present n.present
-stop_stopped effect done s rest fault old lock a k n tells before mid taken h =
+pub halt_halted : (effect : Effect) (done : List Stage) (s : Stage) (rest : List Stage) (fault : Fault) (old lock : Lock) (a k n : History) (tells : Bool) (before mid taken : List ℕ) → IsHalt effect done s rest fault old lock a k n tells before mid taken → AreHalted effect (done ++ s ∷ rest) old fault a.present n.present
+halt_halted effect done s rest fault old lock a k n tells before mid taken h =
     let so = h.so_far in
     let refused = h.refused in
     record {
@@ -195,11 +192,11 @@ stop_stopped effect done s rest fault old lock a k n tells before mid taken h =
       turns = so.turns;
       due = refused.answer;
       output_first = λ e. ap (λ (x : History). x.present.tree) (refused.first e);
-      left = left_since effect s fault lock a.present k.present n.present (jobs so.choices) so.ran (left_read effect s fault lock k.present n.present h.recordable h.read refused.left);
+      left = left_since effect s fault lock a.present k.present n.present (jobs so.choices) so.ran (left_read effect s fault lock k.present n.present h.read refused.left);
     }
 
-pub stop_moments : (effect : Effect) (done : List Stage) (s : Stage) (rest : List Stage) (fault : Fault) (old lock : Lock) (a k n : History) (tells : Bool) (before mid taken : List ℕ) → IsStop effect done s rest fault old lock a k n tells before mid taken → Passes (InTurns effect (done ++ s ∷ rest) old a.present n.present) a n
-stop_moments effect done s rest fault old lock a k n tells before mid taken h =
+pub halt_moments : (effect : Effect) (done : List Stage) (s : Stage) (rest : List Stage) (fault : Fault) (old lock : Lock) (a k n : History) (tells : Bool) (before mid taken : List ℕ) → IsHalt effect done s rest fault old lock a k n tells before mid taken → Passes (InTurns effect (done ++ s ∷ rest) old a.present n.present) a n
+halt_moments effect done s rest fault old lock a k n tells before mid taken h =
     let so = h.so_far in
     let refused = h.refused in
     let here = moments_more effect done s old lock a k n h.apart so.upto so.moments refused.moments in
@@ -214,8 +211,8 @@ pub record IsDueUpTo (effect : Effect) (stages : List Stage) (s : Stage) (choice
   pub last : (f : Fault) → fault_of effect (s ∷ []) k.present.tree lock ≡ Some f → due effect stages a.present.tree old ≡ choices ++ due effect (s ∷ []) k.present.tree lock
   pub fault : (f : Fault) → fault_of effect (s ∷ []) k.present.tree lock ≡ Some f → fault_of effect stages a.present.tree old ≡ Some f
 
-stop_front : (effect : Effect) (done : List Stage) (s : Stage) (rest : List Stage) (fault : Fault) (old lock : Lock) (a k n : History) (tells : Bool) (before mid taken : List ℕ) → (h : IsStop effect done s rest fault old lock a k n tells before mid taken) → (safe : IsSafe effect (done ++ s ∷ rest) old a.present n.present) → IsFront is_record safe.book effect h.so_far.choices (s ∷ rest) (standing a.present.tree old) (standing k.present.tree lock)
-stop_front effect done s rest fault old lock a k n tells before mid taken h safe =
+halt_front : (effect : Effect) (done : List Stage) (s : Stage) (rest : List Stage) (fault : Fault) (old lock : Lock) (a k n : History) (tells : Bool) (before mid taken : List ℕ) → (h : IsHalt effect done s rest fault old lock a k n tells before mid taken) → (safe : AreReliable effect (done ++ s ∷ rest) old a.present n.present) → IsFront is_record safe.book effect h.so_far.choices (s ∷ rest) (standing a.present.tree old) (standing k.present.tree lock)
+halt_front effect done s rest fault old lock a k n tells before mid taken h safe =
     let so = h.so_far in
     let refused = h.refused in
     let now = refused.moments.now in
@@ -223,14 +220,14 @@ stop_front effect done s rest fault old lock a k n tells before mid taken h safe
     let back = sym so.each in
     let from = standing a.present.tree old in
     let to = standing k.present.tree lock in
-    let others = has_others effect fault s lock k.present n.present (left_read effect s fault lock k.present n.present h.recordable h.read refused.left) in
+    let others = has_others effect fault s lock k.present n.present (left_read effect s fault lock k.present n.present h.read refused.left) in
     let met : IsMet book done to = met_before book done s rest lock a.present k.present n.present h.apart now.others others safe.met in
     front is_record book effect so.choices (s ∷ rest) from to (subst (λ (l : List Stage). IsPlanned is_record (l ++ s ∷ rest) a.present.tree) back h.plan) h.tree safe.truthful so.turns (subst (λ (l : List Stage). IsMet book l to) back met)
 
-pub stop_due : (effect : Effect) (done : List Stage) (s : Stage) (rest : List Stage) (fault : Fault) (old lock : Lock) (a k n : History) (tells : Bool) (before mid taken : List ℕ) → (h : IsStop effect done s rest fault old lock a k n tells before mid taken) → IsSafe effect (done ++ s ∷ rest) old a.present n.present → IsDueUpTo effect (done ++ s ∷ rest) s h.so_far.choices old lock a k
-stop_due effect done s rest fault old lock a k n tells before mid taken h safe =
+pub halt_due : (effect : Effect) (done : List Stage) (s : Stage) (rest : List Stage) (fault : Fault) (old lock : Lock) (a k n : History) (tells : Bool) (before mid taken : List ℕ) → (h : IsHalt effect done s rest fault old lock a k n tells before mid taken) → AreReliable effect (done ++ s ∷ rest) old a.present n.present → IsDueUpTo effect (done ++ s ∷ rest) s h.so_far.choices old lock a k
+halt_due effect done s rest fault old lock a k n tells before mid taken h safe =
     let so = h.so_far in
-    let f = stop_front effect done s rest fault old lock a k n tells before mid taken h safe in
+    let f = halt_front effect done s rest fault old lock a k n tells before mid taken h safe in
     let here = due_here effect s rest k.present.tree f.tree lock h.ready h.kept f.same in
     let dues : due effect (done ++ s ∷ rest) a.present.tree old ≡ so.choices ++ due effect (s ∷ rest) f.tree lock =
     ap (λ (l : List Stage). due effect (l ++ s ∷ rest) a.present.tree old) (sym so.each) ∙ f.due in
@@ -243,13 +240,13 @@ stop_due effect done s rest fault old lock a k n tells before mid taken h safe =
       fault = λ g e. faults ∙ here.fault g e;
     }
 
-pub stop_answer : (effect : Effect) (stages : List Stage) (s : Stage) (choices : List (Stage × Choice)) (fault : Fault) (old lock : Lock) (a k : History) → IsDueUpTo effect stages s choices old lock a k → IsAnswer (Some fault) (fault_of effect (s ∷ []) k.present.tree lock) → IsAnswer (Some fault) (fault_of effect stages a.present.tree old)
-stop_answer effect stages s choices fault old lock a k h answer =
+pub halt_answer : (effect : Effect) (stages : List Stage) (s : Stage) (choices : List (Stage × Choice)) (fault : Fault) (old lock : Lock) (a k : History) → IsDueUpTo effect stages s choices old lock a k → IsAnswer (Some fault) (fault_of effect (s ∷ []) k.present.tree lock) → IsAnswer (Some fault) (fault_of effect stages a.present.tree old)
+halt_answer effect stages s choices fault old lock a k h answer =
     answer_on fault (fault_of effect (s ∷ []) k.present.tree lock) (fault_of effect stages a.present.tree old) (λ e. h.fault fault e) answer
 
 -- the jobs, or the lines, of all that is due
-pub stop_gains : {A : Type 0} (of : List (Stage × Choice) → List A) → ((xs ys : List (Stage × Choice)) → of (xs ++ ys) ≡ of xs ++ of ys) → (effect : Effect) (stages : List Stage) (s : Stage) (choices : List (Stage × Choice)) (fault : Fault) (old lock : Lock) (a k : History) (before mid taken : List A) → IsDueUpTo effect stages s choices old lock a k → IsAnswer (Some fault) (fault_of effect (s ∷ []) k.present.tree lock) → mid ≡ before ++ of choices → Gains (Some fault) mid (of (due effect (s ∷ []) k.present.tree lock)) taken → Gains (Some fault) before (of (due effect stages a.present.tree old)) taken
-stop_gains of law effect stages s choices fault old lock a k before mid taken h answer so_far gains =
+pub halt_gains : {A : Type 0} (of : List (Stage × Choice) → List A) → ((xs ys : List (Stage × Choice)) → of (xs ++ ys) ≡ of xs ++ of ys) → (effect : Effect) (stages : List Stage) (s : Stage) (choices : List (Stage × Choice)) (fault : Fault) (old lock : Lock) (a k : History) (before mid taken : List A) → IsDueUpTo effect stages s choices old lock a k → IsAnswer (Some fault) (fault_of effect (s ∷ []) k.present.tree lock) → mid ≡ before ++ of choices → Gains (Some fault) mid (of (due effect (s ∷ []) k.present.tree lock)) taken → Gains (Some fault) before (of (due effect stages a.present.tree old)) taken
+halt_gains of law effect stages s choices fault old lock a k before mid taken h answer so_far gains =
     let here = due effect (s ∷ []) k.present.tree lock in
     let all = due effect stages a.present.tree old in
     let cut = ap of h.front ∙ law choices (here ++ h.more) ∙ ap (λ l. of choices ++ l) (law here h.more) in
@@ -276,8 +273,8 @@ to_run_stages [] = refl
 to_run_stages (s ∷ ss) = ap (λ (l : List Stage). s ∷ l) (to_run_stages ss)
 
 -- the stages after the one that was refused may be taken to run
-pub told_stop : (done : List Stage) (s : Stage) (c : Choice) (rest : List Stage) (fault : Fault) (before mid taken : List ℕ) → IsTold done before mid → GainsFront mid (lines_of s c) taken → IsReport (done ++ s ∷ rest) (Some fault) before taken
-told_stop done s c rest fault before mid taken h g =
+pub told_halt : (done : List Stage) (s : Stage) (c : Choice) (rest : List Stage) (fault : Fault) (before mid taken : List ℕ) → IsTold done before mid → GainsFront mid (lines_of s c) taken → IsReport (done ++ s ∷ rest) (Some fault) before taken
+told_halt done s c rest fault before mid taken h g =
     let later = report (to_run rest) in
     let lines = lines_of s c in
     record {

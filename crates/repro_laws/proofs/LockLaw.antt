@@ -1,10 +1,10 @@
 -- Laws of the lock.
 --     entry_of-set           the entry under a name after a set
---     others_of-set, is_lock-set, truthful_set     what a set leaves
+--     others_of-set, truthful_set     what a set leaves
 --     truthful_grows         a lock stays truthful as the book grows
-use Rattle.std.proofs.Common.{◌≡◌, ℕ, Bool, true, false, ◌&&◌, not, cond, List, [], ◌∷◌, refl, sym, ap, subst, ◌∙◌, inl, inr, Option, Some, is_some}
+use Rattle.std.proofs.Common.{◌≡◌, ℕ, Bool, true, false, cond, List, [], ◌∷◌, refl, sym, ap, subst, ◌∙◌, inl, inr, Option, Some}
 use Rattle.std.specs.Prelude.{bytes_eq}
-use Rattle.std.proofs.lemmas.Bool.{and_parts, and_from, both_ways, false_from_ne_true, cases_Bool, cond-true, cond-false}
+use Rattle.std.proofs.lemmas.Bool.{both_ways, cases_Bool, cond-true, cond-false}
 use Rattle.std.proofs.lemmas.Option.{same_Some}
 use Rattle.world_api.specs.Effect.{Effect}
 use Rattle.lock_files.specs.declared.entry.Entry.{Entry}
@@ -12,7 +12,7 @@ use Rattle.repro_laws.specs.Book.{Book, IsGrown}
 use Rattle.repro_laws.specs.Entries.{IsTrueEntry}
 use Rattle.change_check.proofs.SameLemmas.{bytes_same, bytes_itself}
 use Rattle.repro_laws.proofs.NameLaw.{entry_grows}
-use Rattle.lock_files.specs.Book.{Lock, entry_of, set, is_lock}
+use Rattle.lock_files.specs.Book.{Lock, entry_of, set}
 use Rattle.repro_laws.specs.Lock.{is_among, others_of, IsTruthful}
 
 -- ---- a set
@@ -64,19 +64,6 @@ others_of-set names (e ∷ es) name x among =
           ap (others_of names) (set_here e es name x h) ∙ cond-true (is_among names name) (others_of names es) ((name, x) ∷ others_of names es) among ∙ sym (cond-true (is_among names e.0) (others_of names es) (e ∷ others_of names es) (ap (is_among names) (bytes_same e.0 name h) ∙ among))
       | inr h ↦
           ap (others_of names) (set_later e es name x h) ∙ ap (λ (l : Lock). cond (is_among names e.0) l (e ∷ l)) (others_of-set names es name x among)
-    ]
-
-pub is_lock-set : (lock : Lock) (name : List ℕ) (x : Entry) → is_lock lock ≡ true → is_lock (set lock name x) ≡ true
-is_lock-set [] name x h = refl
-is_lock-set (e ∷ es) name x h =
-    let parts = and_parts (not (is_some (entry_of es e.0))) (is_lock es) h in
-    elim (cases_Bool (bytes_eq e.0 name)) [
-      | inl here ↦
-          ap is_lock (set_here e es name x here) ∙ ap (λ (a : List ℕ). not (is_some (entry_of es a)) && is_lock es) (sym (bytes_same e.0 name here)) ∙ h
-      | inr later ↦
-          let apart : bytes_eq name e.0 ≡ false =
-          false_from_ne_true (bytes_eq name e.0) (λ same. apart_names e.0 name e.0 later (bytes_itself e.0) same) in
-          ap is_lock (set_later e es name x later) ∙ and_from (not (is_some (entry_of (set es name x) e.0))) (is_lock (set es name x)) (ap (λ (o : Option Entry). not (is_some o)) (entry_of-set_other es name x e.0 apart) ∙ parts.0) (is_lock-set es name x parts.1)
     ]
 
 pub truthful_set : (book : Book) (effect : Effect) (lock : Lock) (name : List ℕ) (x : Entry) → IsTruthful book effect lock → IsTrueEntry book effect x → IsTruthful book effect (set lock name x)

@@ -21,12 +21,13 @@ use Rattle.world_api.proofs.ValueLemmas.{value_same}
 use Rattle.world_api.proofs.WriteLemmas.{same_under_then, made_then_made}
 use Rattle.lock_files.specs.declared.entry.Entry.{Entry}
 use Rattle.lock_files.specs.Book.{Lock, set}
-use Rattle.lock_files.specs.Lock.{lock_text}
+use Rattle.yaml_print.specs.Print.{print_text}
+use Rattle.lock_files.specs.Nodes.{lock_node}
 use Rattle.dvc_base.proofs.PathLemmas.{under-refl}
 use Rattle.repro_laws.specs.Stage.{job_of, dep_paths, stage_outs, IsReady}
 use Rattle.repro_laws.specs.Lock.{is_among}
 use Rattle.repro_laws.specs.Headline.{IsKept}
-use Rattle.repro_laws.specs.Moments.{is_record, in_turns, AreJobsOf, HaveRun, HasRun, IsAmong, IsEntryOf, set_all, IsRecorded, InTurns}
+use Rattle.repro_laws.specs.Moments.{IsNewLock, is_record, in_turns, AreJobsOf, HaveRun, HasRun, IsAmong, IsEntryOf, set_all, IsRecorded, InTurns}
 use Rattle.repro_laws.specs.declared.stage.Stage.{Stage}
 use Rattle.repro_laws.proofs.AnewLemmas.{each_both, each_from}
 use Rattle.repro_laws.proofs.StepLaw.{IsSettled, same_given}
@@ -244,6 +245,10 @@ new_file_stays : (q : Path) (bytes : List ℕ) (k n : Moment) → IsSameUnder q 
 new_file_stays q bytes k n same new =
     record { stands = same.items q (under-refl q) ∙ new.stands; firm = λ p u. same.loose p u ∙ new.firm p u }
 
+new_lock_stays : (lock : Lock) (k n : Moment) → IsSameUnder lock_path k n → IsNewLock lock k → IsNewLock lock n
+new_lock_stays lock k n same new =
+    record { file = new_file_stays lock_path (print_text (lock_node lock)) k n same new.file; read_back = new.read_back }
+
 -- the same moment of more stages, and up to a later end
 turns_with : (effect : Effect) (xs ys : List Stage) (lock : Lock) (m k n x : Moment) → (IsRecorded effect xs lock m k x → IsRecorded effect (xs ++ ys) lock m n x) → InTurns effect xs lock m k x → InTurns effect (xs ++ ys) lock m n x
 turns_with effect xs ys lock m k n x f h =
@@ -291,7 +296,7 @@ lock_then effect done s start lock m k n x apart keeps ran upto (inl same) =
             entries = r.entries;
             some = r.some;
             made = entries_later effect done s m k n r.entries apart keeps ran r.made;
-            stands = new_file_stays lock_path (lock_text (set_all start r.entries)) k x same r.stands;
+            stands = new_lock_stays (set_all start r.entries) k x same r.stands;
           })
     ]
 lock_then effect done s start lock m k n x apart keeps ran upto (inr r) =
@@ -304,7 +309,7 @@ lock_then effect done s start lock m k n x apart keeps ran upto (inr r) =
       entries = upto.entries ++ r.entries;
       some = some_joined upto.entries r.entries r.some;
       made = entries_joined (IsEntryOf effect (done ++ s ∷ []) m n) upto.entries r.entries later more;
-      stands = subst (λ (l : Lock). IsNewFile lock_path (lock_text l) x) text r.stands;
+      stands = subst (λ (l : Lock). IsNewLock l x) text r.stands;
     })
 
 pub turns_then : (effect : Effect) (done : List Stage) (s : Stage) (start lock : Lock) (m k n x : Moment) → AllByRecursion (λ a. IsApart a s) done → KeepsPaths (in_turns (s ∷ [])) k n → HaveRun (s ∷ []) k n → IsUpTo effect done start lock m k → InTurns effect (s ∷ []) lock k n x → InTurns effect (done ++ s ∷ []) start m n x

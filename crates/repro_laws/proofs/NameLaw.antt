@@ -120,11 +120,18 @@ pub entry_parts : (commands : List (List ℕ)) (a b : Option (List PathEntry)) (
 entry_parts commands None b e h = absurd (cc)
 entry_parts commands (Some deps) None e h = absurd (cc)
 entry_parts commands (Some deps) (Some outs) e h =
-    let same : record { commands = commands; deps = deps; outs = outs } ≡ e = same_Some _ _ h in (
+    let same : record { commands = commands; deps = deps; params = []; outs = outs } ≡ e = same_Some _ _ h in (
       ap (λ (x : Entry). x.commands) (sym same),
       ap (λ (x : Entry). Some x.deps) same,
       ap (λ (x : Entry). Some x.outs) same,
     )
+
+pub entry_free : (commands : List (List ℕ)) (a b : Option (List PathEntry)) (e : Entry) → entry_from commands a b ≡ Some e → e.params ≡ []
+entry_free commands None b e h = absurd (cc)
+entry_free commands (Some deps) None e h = absurd (cc)
+entry_free commands (Some deps) (Some outs) e h =
+    let same : record { commands = commands; deps = deps; params = []; outs = outs } ≡ e = same_Some _ _ h in
+    ap (λ (x : Entry). x.params) (sym same)
 
 same_run : (commands given : List (List ℕ)) (deps held : List (List ℕ × Value)) (outs texts : List (List ℕ)) → commands ≡ given → deps ≡ held → outs ≡ texts → ◌≡◌ {A = Invocation} (record { commands = commands; deps = deps; outs = outs }) (record { commands = given; deps = held; outs = texts })
 same_run commands given deps held outs texts e f g =

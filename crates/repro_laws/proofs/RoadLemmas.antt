@@ -4,17 +4,17 @@
 --     item_without        outside the paths that are taken away nothing changes
 --     root_outside        the root lies in no output
 --     above_outputs       no path strictly above an output lies in an output
-use Rattle.std.proofs.Common.{◌≡◌, ◌≢◌, ℕ, ◌+◌, ◌-◌, Bool, true, false, not, cond, List, [], ◌∷◌, ◌++◌, length, take, drop, refl, sym, ap, subst, ◌∙◌, arith, append_assoc, Option, Some, None, is_some, ◌==◌}
+use Rattle.std.proofs.Common.{◌≡◌, ◌≢◌, ℕ, ◌+◌, ◌-◌, ◌<◌, nat_lt, Bool, true, false, not, cond, List, [], ◌∷◌, ◌++◌, length, take, drop, refl, sym, ap, subst, ◌∙◌, arith, append_assoc, Option, Some, None, is_some, ◌==◌}
 use Rattle.std.specs.List.{AllByRecursion, list_any}
 use Rattle.std.specs.Ordering.{nat_cmp, eq_by_cmp}
 use Rattle.std.specs.Cmp.{IsTotalOrder, Equal-is}
 use Rattle.std.specs.FinMap.{get, insert, retain_keys, get-insert, get-retain_keys, nat_cmp-IsAntisymmetric, slice_cmp-IsAntisymmetric}
 use Rattle.std.proofs.lemmas.Cmp.{lists_total, nat_list_cmp_total, eq_by_cmp_equiv}
-use Rattle.std.proofs.lemmas.Bool.{and_parts, or_parts, or_from, both_ways, false_from_ne_true}
+use Rattle.std.proofs.lemmas.Bool.{and_parts, and_from, or_parts, or_from, both_ways, false_from_ne_true, ltb-true, lt-ltb}
 use Rattle.std.proofs.lemmas.List.{append-nil, length-append, length-take-le, take-append-drop}
 use Rattle.std.proofs.Math.Seq.{take-append-add}
 use Rattle.dvc_base.specs.Path.{Path, under, overlap, is_within}
-use Rattle.dvc_base.proofs.PathLemmas.{under-refl, under-trans, under-split, under-append, under-length, is_within-parts, is_within-from}
+use Rattle.dvc_base.proofs.PathLemmas.{under-refl, under-trans, under-split, under-append, under-length}
 use Rattle.world_api.specs.Tree.{Tree, Item, folder, IsTree, path_cmp, item_at}
 use Rattle.world_api.specs.Effect.{is_in_any}
 use Rattle.world_api.specs.Calls.{is_apart, are_apart, parent}
@@ -59,11 +59,22 @@ item_without (p ∷ ps) t q h =
     let parts = or_parts (under p q) (is_in_any ps q) h in
     item_without ps (retain_keys t (λ x. not (under p x))) q parts.1 ∙ item_retain t p q parts.0
 
+-- ---- a path within another
+
+is_within_parts : (p q : Path) → is_within p q ≡ true → (under q p ≡ true) × (length q < length p)
+is_within_parts p q h =
+    let x = and_parts (under q p) (nat_lt (length q) (length p)) h in
+    (x.0, ltb-true (length q) (length p) x.1)
+
+is_within_from : (p q : Path) → under q p ≡ true → length q < length p → is_within p q ≡ true
+is_within_from p q a b =
+    and_from (under q p) (nat_lt (length q) (length p)) a (lt-ltb (length q) (length p) b)
+
 -- ---- the folder above a path
 
 pub under_parent : (q p : Path) → is_within p q ≡ true → under q (parent p) ≡ true
 under_parent q p h =
-    let parts = is_within-parts p q h in
+    let parts = is_within_parts p q h in
     let rest = drop (length q) p in
     let cut : p ≡ q ++ rest = under-split q p parts.0 in
     let n = length p - 1 - length q in
@@ -81,7 +92,7 @@ within_parent q (c ∷ p) root h =
     let up : under (parent all) all ≡ true =
     subst (λ (x : Path). under (parent all) x ≡ true) (take-append-drop (length all - 1) all) (under-append (parent all) (drop (length all - 1) all)) in
     let short = under-length q (parent all) h in
-    is_within-from all q (under-trans q (parent all) all h up) (omega arith)
+    is_within_from all q (under-trans q (parent all) all h up) (omega arith)
 
 -- ---- folders that lead to a path
 
@@ -120,7 +131,7 @@ is_blocked_road t above (c ∷ p) h =
     let l : length (above ++ c ∷ p) ≡ length above + length (c ∷ p) = length-append above (c ∷ p) in
     let some : length (c ∷ p) ≡ length p + 1 = omega arith in
     let here : item_at t above ≡ Some folder =
-    h above (is_within-from (above ++ c ∷ p) above (under-append above (c ∷ p)) (omega arith)) in
+    h above (is_within_from (above ++ c ∷ p) above (under-append above (c ∷ p)) (omega arith)) in
     ap (λ (o : Option Item). cond (is_file o) true (is_blocked t (above ++ c ∷ []) p)) here ∙ is_blocked_road t (above ++ c ∷ []) p (λ q u. h q (subst (λ (x : Path). is_within x q ≡ true) (append_assoc above (c ∷ []) p) u))
 
 -- ---- outputs that are apart
@@ -161,7 +172,7 @@ above_more p outs [] h all = tt
 above_more p outs (q ∷ ps) h all =
     let parts = apart_head p q ps h in
     let over = or_parts (under p q) (under q p) parts.0 in (
-      λ r w. or_from (under p r) (is_in_any outs r) (false_from_ne_true (under p r) (λ e. both_ways (under p q) over.0 (under-trans p r q e (is_within-parts q r w).0))) (all.0 r w),
+      λ r w. or_from (under p r) (is_in_any outs r) (false_from_ne_true (under p r) (λ e. both_ways (under p q) over.0 (under-trans p r q e (is_within_parts q r w).0))) (all.0 r w),
       above_more p outs ps parts.1 all.1,
     )
 
@@ -169,7 +180,7 @@ pub above_outputs : (ps : List Path) → are_apart ps ≡ true → AllByRecursio
 above_outputs [] h = tt
 above_outputs (p ∷ ps) h =
     let parts = and_parts (is_apart p ps) (are_apart ps) h in (
-      λ r w. let up = is_within-parts p r w in or_from (under p r) (is_in_any ps r) (false_from_ne_true (under p r) (λ e. let l = under-length p r e in absurd (omega arith))) (apart_above p r ps parts.0 up.0),
+      λ r w. let up = is_within_parts p r w in or_from (under p r) (is_in_any ps r) (false_from_ne_true (under p r) (λ e. let l = under-length p r e in absurd (omega arith))) (apart_above p r ps parts.0 up.0),
       above_more p ps ps parts.0 (above_outputs ps parts.1),
     )
 
@@ -179,6 +190,6 @@ roads_put t p item [] h roads = tt
 roads_put t p item (q ∷ ps) h roads =
     let parts = apart_head p q ps h in
     let over = or_parts (under p q) (under q p) parts.0 in (
-      λ r w. item_put_other t p r item (λ e. both_ways (under p q) over.0 (subst (λ (x : Path). under x q ≡ true) e (is_within-parts q r w).0)) ∙ roads.0 r w,
+      λ r w. item_put_other t p r item (λ e. both_ways (under p q) over.0 (subst (λ (x : Path). under x q ≡ true) e (is_within_parts q r w).0)) ∙ roads.0 r w,
       roads_put t p item ps parts.1 roads.1,
     )

@@ -19,13 +19,13 @@ use Rattle.repro_laws.specs.Lock.{IsTruthful}
 use Rattle.repro_laws.specs.Entries.{IsTrueEntry}
 use Rattle.repro_laws.specs.Headline.{Covers}
 use Rattle.repro_laws.specs.Moments.{is_record, in_turns, HasRun, IsAmong, IsEntryOf, set_all, IsRecorded, InTurns}
-use Rattle.repro_laws.specs.Sound.{lock_by, lock_of, StopsLeaveTruth, IsKnown, IsMetSince, IsOutside, IsRecordable, TurnsAreSound}
+use Rattle.repro_laws.specs.Sound.{lock_by, lock_of, StopsLeaveTruth, IsKnown, IsMetSince, IsOutside, TurnsAreSound}
 use Rattle.repro_laws.specs.declared.stage.Stage.{Stage}
 use Rattle.repro_laws.proofs.NameLaw.{run_true}
 use Rattle.repro_laws.proofs.LockLaw.{truthful_set}
 use Rattle.repro_laws.proofs.PlanLaw.{in_neither}
 use Rattle.repro_laws.proofs.MomentLaw.{each_among}
-use Rattle.repro_laws.proofs.LockOfLemmas.{lock_of_same, lock_of_new, lock_of_book, set_all_good}
+use Rattle.repro_laws.proofs.LockOfLemmas.{lock_of_same, lock_of_new}
 
 -- ---- stops
 
@@ -50,11 +50,10 @@ entries_true book effect stages m end lock [] ready met made truthful = truthful
 entries_true book effect stages m end lock (e ∷ es) ready met made truthful =
     entries_true book effect stages m end (set lock e.0.name e.1) es ready met made.1 (truthful_set book effect lock e.0.name e.1 truthful (entry_true book effect stages m end e ready met made.0))
 
-recorded_true : (book : Book) (effect : Effect) (stages : List Stage) (lock new : Lock) (m end n : Moment) → AllByRecursion IsReady stages → AllByRecursion IsRecordable stages → IsMetSince book stages m end → lock_of m.tree ≡ Some lock → IsTruthful book effect lock → IsRecorded effect stages lock m end n → lock_of n.tree ≡ Some new → IsTruthful book effect new
-recorded_true book effect stages lock new m end n ready recordable met read truthful r found =
-    let good = set_all_good effect stages m end lock r.entries recordable (lock_of_book m.tree lock read) r.made in
+recorded_true : (book : Book) (effect : Effect) (stages : List Stage) (lock new : Lock) (m end n : Moment) → AllByRecursion IsReady stages → IsMetSince book stages m end → IsTruthful book effect lock → IsRecorded effect stages lock m end n → lock_of n.tree ≡ Some new → IsTruthful book effect new
+recorded_true book effect stages lock new m end n ready met truthful r found =
     let same : set_all lock r.entries ≡ new =
-    same_Some (set_all lock r.entries) new (sym (lock_of_new (set_all lock r.entries) n good r.stands) ∙ found) in
+    same_Some (set_all lock r.entries) new (sym (lock_of_new (set_all lock r.entries) n r.stands) ∙ found) in
     subst (IsTruthful book effect) same (entries_true book effect stages m end lock r.entries ready met r.made truthful)
 
 -- ---- what the tool keeps lies apart from the outputs
@@ -94,7 +93,10 @@ made_firm q m n (inr new) firm = new.1.firm
 
 lock_stays_firm : (effect : Effect) (stages : List Stage) (lock : Lock) (m end n : Moment) (p : Path) → under lock_path p ≡ true → m.loose p ≡ false → (IsSameUnder lock_path m n ⊎ IsRecorded effect stages lock m end n) → n.loose p ≡ false
 lock_stays_firm effect stages lock m end n p below firm (inl same) = same.loose p below ∙ firm
-lock_stays_firm effect stages lock m end n p below firm (inr r) = let new = r.stands in new.firm p below
+lock_stays_firm effect stages lock m end n p below firm (inr r) =
+    let new = r.stands in
+    let file = new.file in
+    file.firm p below
 
 dvc_stays_firm : (effect : Effect) (stages : List Stage) (lock : Lock) (m end n : Moment) (p : Path) → AllByRecursion IsOutside stages → InTurns effect stages lock m end n → under dvc_path p ≡ true → under tmp_path p ≡ false → m.loose p ≡ false → n.loose p ≡ false
 dvc_stays_firm effect stages lock m end n p outside h below tmp firm =
@@ -104,17 +106,17 @@ dvc_stays_firm effect stages lock m end n p outside h below tmp firm =
       | inr other ↦ h.others.loose p (dvc_kept stages p outside other below tmp) ∙ firm
     ]
 
-lock_stays_true : (book : Book) (effect : Effect) (stages : List Stage) (lock new : Lock) (m end n : Moment) → AllByRecursion IsReady stages → AllByRecursion IsRecordable stages → IsMetSince book stages m end → lock_of m.tree ≡ Some lock → IsTruthful book effect lock → lock_of n.tree ≡ Some new → (IsSameUnder lock_path m n ⊎ IsRecorded effect stages lock m end n) → IsTruthful book effect new
-lock_stays_true book effect stages lock new m end n ready recordable met read truthful found (inl same) =
+lock_stays_true : (book : Book) (effect : Effect) (stages : List Stage) (lock new : Lock) (m end n : Moment) → AllByRecursion IsReady stages → IsMetSince book stages m end → lock_of m.tree ≡ Some lock → IsTruthful book effect lock → lock_of n.tree ≡ Some new → (IsSameUnder lock_path m n ⊎ IsRecorded effect stages lock m end n) → IsTruthful book effect new
+lock_stays_true book effect stages lock new m end n ready met read truthful found (inl same) =
     let kept : lock ≡ new = same_Some lock new (sym read ∙ sym (lock_of_same m n same) ∙ found) in
     subst (IsTruthful book effect) kept truthful
-lock_stays_true book effect stages lock new m end n ready recordable met read truthful found (inr r) =
-    recorded_true book effect stages lock new m end n ready recordable met read truthful r found
+lock_stays_true book effect stages lock new m end n ready met read truthful found (inr r) =
+    recorded_true book effect stages lock new m end n ready met truthful r found
 
 pub sound : TurnsAreSound
-sound book effect stages lock m end n ready outside recordable read before met h =
+sound book effect stages lock m end n ready outside read before met h =
     record {
-      truthful = λ new found. lock_stays_true book effect stages lock new m end n ready recordable met read (before.truthful lock read) found h.remembered;
+      truthful = λ new found. lock_stays_true book effect stages lock new m end n ready met read (before.truthful lock read) found h.remembered;
       lock_firm = λ p below. lock_stays_firm effect stages lock m end n p below (before.lock_firm p below) h.remembered;
       yaml_firm = h.others.loose yaml_path (yaml_kept stages outside) ∙ before.yaml_firm;
       dvc_firm = λ p below tmp. dvc_stays_firm effect stages lock m end n p outside h below tmp (before.dvc_firm p below tmp);

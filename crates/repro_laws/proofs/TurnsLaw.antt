@@ -1,9 +1,9 @@
 -- What a turn has left, by its choice, and what stays of it in later turns.
 --     present_same     the present entry depends on the files at the stage's paths alone
---     skip_parts       a skip is chosen only where the lock's entry is the present one
+--     skip_parts       a skip is chosen only where there are dependencies, and the lock's entry is the present one
 --     run_made         a run leaves what the effect gives in the tree that it leaves
 --     left_law         what either choice has left, and that its entry is true
---     turns_keep, turns_keep_entry, turns_keep_others, turns_keep_lock     what turns leave alone
+--     turns_keep, turns_keep_entry, turns_keep_others     what turns leave alone
 use Rattle.std.proofs.Common.{◌≡◌, ℕ, Bool, true, false, cond, List, [], ◌∷◌, ◌++◌, map, refl, sym, ap, subst, ◌∙◌, Option, Some, None}
 use Rattle.std.specs.Prelude.{bytes_eq}
 use Rattle.std.specs.List.{AllByRecursion, flat_map}
@@ -20,9 +20,9 @@ use Rattle.repro_laws.specs.Stage.{dep_paths, stage_outs, in_order, IsReady}
 use Rattle.repro_laws.specs.Book.{Book}
 use Rattle.repro_laws.specs.Entries.{named_path, in_front, named_paths, entry_from, present_entry, IsPresent, told_of}
 use Rattle.change_check.specs.Same.{same_entry}
-use Rattle.lock_files.specs.Book.{Lock, entry_of, is_lock}
+use Rattle.lock_files.specs.Book.{Lock, entry_of}
 use Rattle.repro_laws.specs.Lock.{is_among, others_of, IsTruthful}
-use Rattle.repro_laws.specs.Choices.{choice_by, lock_after}
+use Rattle.repro_laws.specs.Choices.{choice_by, is_always_changed, choice_of, lock_after}
 use Rattle.repro_laws.specs.Turns.{Standing, Runs, Turn, Turns, stages_of}
 use Rattle.repro_laws.specs.Headline.{IsKept, Covers}
 use Rattle.repro_laws.specs.declared.stage.Stage.{Stage}
@@ -30,8 +30,8 @@ use Rattle.repro_laws.specs.declared.stage.Choice.{Choice}
 use Rattle.repro_laws.specs.declared.stage.Choice.TheVariants.{Skip, Run}
 use Rattle.repro_laws.proofs.AnewLemmas.{each_both, deps_outside}
 use Rattle.repro_laws.proofs.NameLaw.{front_parts, named_parts, entry_parts, IsMade, skip_law, run_true}
-use Rattle.repro_laws.proofs.LockLaw.{entry_of-set_same, entry_of-set_other, others_of-set, is_lock-set, truthful_set}
-use Rattle.change_check.proofs.SameLemmas.{same_entry-Decides}
+use Rattle.repro_laws.proofs.LockLaw.{entry_of-set_same, entry_of-set_other, others_of-set, truthful_set}
+use Rattle.change_check.proofs.SameLemmas.{entry_same}
 use Rattle.repro_laws.proofs.StepLaw.{IsLeft, same_given}
 use Rattle.repro_laws.proofs.OrderLemmas.{all_in_order, all_as_written}
 
@@ -87,17 +87,33 @@ files_present s t e ready present =
 
 -- ---- the choice
 
-abbrev IsSkipped : Option Entry → Option Entry → Type 0
-IsSkipped a b = (e : Entry) × (a ≡ Some e) × (b ≡ Some e)
+abbrev AreSame : Option Entry → Option Entry → Type 0
+AreSame a b = (e : Entry) × (a ≡ Some e) × (b ≡ Some e)
 
-skip_cases : (x y : Entry) (b : Bool) → same_entry x y ≡ b → cond b Skip Run ≡ Skip → IsSkipped (Some x) (Some y)
-skip_cases x y true same e = (x, refl, ap (λ (z : Entry). Some z) (sym ((same_entry-Decides x y).0 same)))
+skip_cases : (x y : Entry) (b : Bool) → same_entry x y ≡ b → cond b Skip Run ≡ Skip → AreSame (Some x) (Some y)
+skip_cases x y true same e = (x, refl, ap (λ (z : Entry). Some z) (sym (entry_same x y same)))
 skip_cases x y false same e = absurd (cc)
 
-pub skip_parts : (a b : Option Entry) → choice_by a b ≡ Skip → IsSkipped a b
-skip_parts None b e = absurd (cc)
-skip_parts (Some x) None e = absurd (cc)
-skip_parts (Some x) (Some y) e = skip_cases x y (same_entry x y) refl e
+entries_same : (a b : Option Entry) → choice_by a b ≡ Skip → AreSame a b
+entries_same None b e = absurd (cc)
+entries_same (Some x) None e = absurd (cc)
+entries_same (Some x) (Some y) e = skip_cases x y (same_entry x y) refl e
+
+never_skipped : (b : Bool) (c : Choice) → cond b Run c ≡ Skip → (b ≡ false) × (c ≡ Skip)
+never_skipped true c e = absurd (cc)
+never_skipped false c e = (refl, e)
+
+pub record IsSkipped (s : Stage) (t : Tree) (lock : Lock) : Type 0 where
+  pub dependent : is_always_changed s ≡ false
+  pub entry : Entry
+  pub there : entry_of lock s.name ≡ Some entry
+  pub present : IsPresent entry s t
+
+pub skip_parts : (s : Stage) (t : Tree) (lock : Lock) → choice_of s t lock ≡ Skip → IsSkipped s t lock
+skip_parts s t lock e =
+    let chosen = never_skipped (is_always_changed s) (choice_by (entry_of lock s.name) (present_entry s t)) e in
+    let same = entries_same (entry_of lock s.name) (present_entry s t) chosen.1 in
+    record { dependent = chosen.0; entry = same.0; there = same.1; present = same.2 }
 
 -- ---- what a turn has left
 
@@ -110,11 +126,11 @@ pub record HasTurned (s : Stage) (c : Choice) (m n : Standing) : Type 0 where
 
 pub turned : (records : Path → Bool) (effect : Effect) (s : Stage) (c : Choice) (m n : Standing) → Turn records effect s c m n → HasTurned s c m n
 turned records effect s Skip m n turn =
-    let parts = skip_parts (entry_of m.lock s.name) (present_entry s m.tree) turn.chosen in
+    let parts = skip_parts s m.tree m.lock turn.chosen in
     record {
-      entry = parts.0;
-      there = ap (λ (x : Standing). entry_of x.lock s.name) turn.left ∙ parts.1;
-      present = ap (λ (x : Standing). present_entry s x.tree) turn.left ∙ parts.2;
+      entry = parts.entry;
+      there = ap (λ (x : Standing). entry_of x.lock s.name) turn.left ∙ parts.there;
+      present = ap (λ (x : Standing). present_entry s x.tree) turn.left ∙ parts.present;
       lock = ap (λ (x : Standing). x.lock) turn.left;
     }
 turned records effect s Run m n turn =
@@ -146,8 +162,8 @@ run_made records effect s m n ready kept run =
 
 made_by : (records : Path → Bool) (book : Book) (effect : Effect) (s : Stage) (c : Choice) (m n : Standing) → IsReady s → IsKept records s → IsTruthful book effect m.lock → Covers book n.tree s → Turn records effect s c m n → IsMade effect s n.tree
 made_by records book effect s Skip m n ready kept truthful covers turn =
-    let parts = skip_parts (entry_of m.lock s.name) (present_entry s m.tree) turn.chosen in
-    skip_law book effect parts.0 s n.tree ready (truthful s.name parts.0 parts.1) (ap (λ (x : Standing). present_entry s x.tree) turn.left ∙ parts.2) covers
+    let parts = skip_parts s m.tree m.lock turn.chosen in
+    skip_law book effect parts.entry s n.tree ready (truthful s.name parts.entry parts.there) (ap (λ (x : Standing). present_entry s x.tree) turn.left ∙ parts.present) covers
 made_by records book effect s Run m n ready kept truthful covers turn =
     run_made records effect s m n ready kept turn.left
 
@@ -209,15 +225,3 @@ pub turns_keep_others : (records : Path → Bool) (effect : Effect) (cs : List (
 turns_keep_others records effect [] m n turns names among = ap (λ (x : Standing). others_of names x.lock) turns
 turns_keep_others records effect (c ∷ cs) m n turns names among =
     turns_keep_others records effect cs turns.0 n turns.2 names among.1 ∙ turn_keeps_others records effect c.0 c.1 m turns.0 turns.1 names among.0
-
-turn_keeps_lock : (records : Path → Bool) (effect : Effect) (s : Stage) (c : Choice) (m n : Standing) → Turn records effect s c m n → is_lock m.lock ≡ true → is_lock n.lock ≡ true
-turn_keeps_lock records effect s Skip m n turn once = ap (λ (x : Standing). is_lock x.lock) turn.left ∙ once
-turn_keeps_lock records effect s Run m n turn once =
-    let run = turn.left in
-    ap is_lock run.lock ∙ is_lock-set m.lock s.name run.entry once
-
--- no name stands twice
-pub turns_keep_lock : (records : Path → Bool) (effect : Effect) (cs : List (Stage × Choice)) (m n : Standing) → Turns records effect cs m n → is_lock m.lock ≡ true → is_lock n.lock ≡ true
-turns_keep_lock records effect [] m n turns once = ap (λ (x : Standing). is_lock x.lock) turns ∙ once
-turns_keep_lock records effect (c ∷ cs) m n turns once =
-    turns_keep_lock records effect cs turns.0 n turns.2 (turn_keeps_lock records effect c.0 c.1 m turns.0 turns.1 once)

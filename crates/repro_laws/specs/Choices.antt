@@ -1,9 +1,11 @@
 -- What a turn chooses, and what is due of a list of stages where something is remembered.
---     choice_of s t lock           Skip where the lock's entry is the same as the present one, else Run
+--     is_always_changed s          the stage has no dependencies
+--     choice_of s t lock           Run of a stage that is always changed, Skip where the lock's entry is the same as the present
+--                                  one, else Run
 --     due effect stages t lock     the choices along the order: up to a stage that lacks a dependency, or a run that is refused
 --     fault_of effect stages t lock      the refusal that is due, if there is one
 -- In what is due each turn gives the stage's outputs their values anew, and a run gives the lock its entry.
-use Rattle.std.specs.Prelude.{ℕ, List, [], ◌∷◌, Option, Some, None, is_some, if◌then◌else◌}
+use Rattle.std.specs.Prelude.{ℕ, Bool, List, [], ◌∷◌, length, Option, Some, None, is_some, ◌==◌, if◌then◌else◌}
 use Rattle.world_api.specs.Tree.{Tree}
 use Rattle.dvc_base.specs.declared.fault.Fault.{Fault}
 use Rattle.world_api.specs.Effect.{Effect, invocation_of}
@@ -24,8 +26,13 @@ choice_by None present = Run
 choice_by (Some remembered) None = Run
 choice_by (Some remembered) (Some present) = if same_entry remembered present then Skip else Run
 
+-- nothing tells whether such a stage would make other outputs
+abbrev pub is_always_changed : Stage → Bool
+is_always_changed s = length s.deps == 0
+
 abbrev pub choice_of : Stage → Tree → Lock → Choice
-choice_of s t lock = choice_by (entry_of lock s.name) (present_entry s t)
+choice_of s t lock =
+    if is_always_changed s then Run else choice_by (entry_of lock s.name) (present_entry s t)
 
 -- the lock after a turn of this choice, for a stage of this name
 abbrev pub lock_after : Choice → Lock → List ℕ → Option Entry → Lock

@@ -35,7 +35,8 @@ named_paths t dir (text ∷ texts) =
 abbrev pub entry_from : List (List ℕ) → Option (List PathEntry) → Option (List PathEntry) → Option Entry
 entry_from commands None outs = None
 entry_from commands (Some deps) None = None
-entry_from commands (Some deps) (Some outs) = Some (record { commands = commands; deps = deps; outs = outs })
+entry_from commands (Some deps) (Some outs) =
+    Some (record { commands = commands; deps = deps; params = []; outs = outs })
 
 abbrev pub present_entry : Stage → Tree → Option Entry
 present_entry s t = entry_from s.commands (named_paths t s.dir (job_of s).deps) (named_paths t s.dir (job_of s).outs)

@@ -18,7 +18,7 @@ use Rattle.repro_laws.specs.Book.{Book, IsCovered}
 use Rattle.repro_laws.specs.Entries.{IsPresent}
 use Rattle.lock_files.specs.Book.{Lock, entry_of}
 use Rattle.repro_laws.specs.Lock.{is_among, others_of, IsTruthful}
-use Rattle.repro_laws.specs.Choices.{choice_of, due, fault_of}
+use Rattle.repro_laws.specs.Choices.{is_always_changed, choice_of, due, fault_of}
 use Rattle.repro_laws.specs.Turns.{Standing, Turns, stages_of}
 use Rattle.repro_laws.specs.declared.stage.Stage.{Stage}
 use Rattle.repro_laws.specs.declared.stage.Choice.{Choice}
@@ -74,12 +74,12 @@ pub record LeavesAnew (records : Path → Bool) (effect : Effect) (stages : List
   pub other_entries : others_of (map (λ s. s.name) stages) new.lock ≡ others_of (map (λ s. s.name) stages) old.lock
   pub others : (p : Path) → is_in_any (flat_map stage_outs stages) p ≡ false → records p ≡ false → item_at new.tree p ≡ item_at old.tree p
 
--- a skip is chosen exactly where the lock's entry is the present one
+-- a skip is chosen exactly where the stage has dependencies, and the lock's entry is the present one
 abbrev pub SkipIsExact : Type 0
 SkipIsExact =
     (s : Stage) (t : Tree) (lock : Lock)
-    → (choice_of s t lock ≡ Skip → (e : Entry) × (entry_of lock s.name ≡ Some e) × IsPresent e s t)
-    × ((e : Entry) → entry_of lock s.name ≡ Some e → IsPresent e s t → choice_of s t lock ≡ Skip)
+    → (choice_of s t lock ≡ Skip → (is_always_changed s ≡ false) × HasEntry lock t s)
+    × (is_always_changed s ≡ false → HasEntry lock t s → choice_of s t lock ≡ Skip)
 
 -- after the turns of all stages
 pub record IsHeadline (records : Path → Bool) (book : Book) (effect : Effect) (choices : List (Stage × Choice)) (old new : Standing) : Type 0 where

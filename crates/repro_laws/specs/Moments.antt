@@ -1,8 +1,9 @@
 -- What the tool keeps of its own in the workspace, and what every moment of a `repro` is.
 --     is_record p                            whether the tool keeps something of its own at the path
+--     IsNewLock lock n                       the lock was written, as a text that is read as just this lock
 --     IsEntryOf effect stages m end e        a run has made the entry, and what it made stands at the end
 --     InTurns effect stages lock m end n     each moment n of the turns of stages, which begin at m and stop at the end
-use Rattle.std.specs.Prelude.{◌≡◌, ◌≢◌, ◌<◌, ◌⊎◌, ◌^◌, Bool, ◌||◌, List, [], ◌∷◌, ◌++◌, map, ⊤}
+use Rattle.std.specs.Prelude.{◌≡◌, ◌≢◌, ◌<◌, ◌⊎◌, ◌^◌, Bool, ◌||◌, List, [], ◌∷◌, ◌++◌, map, Ok, ⊤}
 use Rattle.std.specs.List.{AllByRecursion, flat_map}
 use Rattle.dvc_base.specs.Path.{Path}
 use Rattle.dvc_base.specs.declared.fault.Fault.{Fault}
@@ -13,10 +14,12 @@ use Rattle.world_api.specs.History.{Moment, History, Grows, KeepsPaths}
 use Rattle.world_api.specs.Writes.{IsMade, IsSameUnder, IsNewFile, CanWrite, in_write}
 use Rattle.world_api.specs.Layout.{dvc_path, lock_path}
 use Rattle.world_api.specs.declared.job.Job.{Job}
+use Rattle.yaml_print.specs.Print.{print_text}
 use Rattle.lock_files.specs.declared.entry.Entry.{Entry}
 use Rattle.lock_files.specs.declared.entry.PathEntry.{PathEntry}
 use Rattle.lock_files.specs.Book.{Lock, set}
-use Rattle.lock_files.specs.Lock.{lock_text}
+use Rattle.lock_files.specs.Nodes.{lock_node}
+use Rattle.lock_files.specs.Read.{lock_read}
 use Rattle.repro_laws.specs.Stage.{job_of, stage_outs}
 use Rattle.repro_laws.specs.Entries.{IsPresent}
 use Rattle.repro_laws.specs.declared.stage.Stage.{Stage}
@@ -26,6 +29,10 @@ use Rattle.repro_laws.specs.declared.stage.Choice.TheVariants.{Skip, Run}
 -- the lock, and what is written on the way to it
 abbrev pub is_record : Path → Bool
 is_record = in_write lock_path
+
+pub record IsNewLock (lock : Lock) (n : Moment) : Type 0 where
+  pub file : IsNewFile lock_path (print_text (lock_node lock)) n
+  pub read_back : lock_read (print_text (lock_node lock)) ≡ Ok lock
 
 -- what the turns of stages may touch
 abbrev pub in_turns : List Stage → Path → Bool
@@ -79,13 +86,13 @@ pub record IsRecorded (effect : Effect) (stages : List Stage) (lock : Lock) (m e
   pub entries : List (Stage × Entry)
   pub some : entries ≢ []
   pub made : AllByRecursion (IsEntryOf effect stages m end) entries
-  pub stands : IsNewFile lock_path (lock_text (set_all lock entries)) n
+  pub stands : IsNewLock (set_all lock entries) n
 
--- the lock after a turn that didn't end well: as it was, or with the stage's entry where its publish failed
+-- the lock after a turn that didn't end well: as it was, or with the stage's entry where a call to the world failed
 abbrev pub IsLeftLock : Effect → Stage → Lock → Fault → Moment → Moment → Type 0
 IsLeftLock effect s lock fault m n =
     IsSameUnder lock_path m n
-    ⊎ ((fault ≡ WorldFault) × (e : Entry) × IsEntryOf effect (s ∷ []) m n (s, e) × IsNewFile lock_path (lock_text (set lock s.name e)) n)
+    ⊎ ((fault ≡ WorldFault) × (e : Entry) × IsEntryOf effect (s ∷ []) m n (s, e) × IsNewLock (set lock s.name e) n)
 
 -- ---- moments
 
@@ -100,7 +107,7 @@ pub record InTurns (effect : Effect) (stages : List Stage) (lock : Lock) (m end 
 -- what a turn that ended leaves of the lock: all is as it was after a skip, and after a run the lock is published
 abbrev pub IsRemembered : Choice → Lock → History → History → Type 0
 IsRemembered Skip lock old new = new ≡ old
-IsRemembered Run lock old new = IsNewFile lock_path (lock_text lock) new.present
+IsRemembered Run lock old new = IsNewLock lock new.present
 
 -- the lock after a turn that ended: as it was after a skip, and with the stage's present entry after a run
 abbrev pub IsLockAfter : Choice → Stage → Lock → Lock → Tree → Type 0

@@ -1,12 +1,14 @@
 -- What a workspace remembers, and when it can be relied upon.
---     lock_of t                      the lock of a tree; none where what stands there isn't the text of one
+--     lock_of t                      the lock of a tree; none where what stands there isn't read as one
+--     IsRecordable s                 each entry that the stage may have is in form
 --     IsSound book effect n          each entry of the lock is true, and no stop changes what the tool keeps
 --     IsImage n t                    a tree that a stop at a moment may leave
 --     IsMetSince book stages m n     the book has what the turns between two moments read and wrote
---     IsStopped                      what turns leave that end with a refusal
+--     AreHalted                      what turns leave that end with a refusal
 --     IsReport                       the lines of turns
-use Rattle.std.specs.Prelude.{◌≡◌, ◌⊎◌, ℕ, true, false, List, [], ◌∷◌, ◌++◌, Option, Some, None, IsTrue}
+use Rattle.std.specs.Prelude.{◌≡◌, ◌⊎◌, ◌<◌, ℕ, true, false, List, [], ◌∷◌, ◌++◌, length, Option, Some, None, IsTrue}
 use Rattle.std.specs.List.{AllByRecursion}
+use Rattle.std.specs.Result.{result_ok}
 use Rattle.dvc_base.specs.Path.{Path, under}
 use Rattle.dvc_base.specs.declared.fault.Fault.{Fault}
 use Rattle.dvc_base.specs.declared.fault.Fault.TheVariants.{WorldFault, OutFault}
@@ -15,20 +17,18 @@ use Rattle.world_api.specs.Effect.{Effect, is_in_any}
 use Rattle.world_api.specs.History.{Moment}
 use Rattle.world_api.specs.Layout.{dvc_path, tmp_path, lock_path, yaml_path}
 use Rattle.lock_files.specs.declared.entry.Entry.{Entry}
-use Rattle.lock_files.specs.Word.{is_name}
 use Rattle.lock_files.specs.Book.{Lock, set}
-use Rattle.lock_files.specs.Form.{is_entry}
-use Rattle.lock_files.specs.Read.{lock_in}
+use Rattle.lock_files.specs.Order.{is_rising}
+use Rattle.lock_files.specs.Read.{lock_read}
 use Rattle.repro_laws.specs.Book.{Book}
 use Rattle.repro_laws.specs.Stage.{job_of, stage_outs, IsReady}
-use Rattle.repro_laws.specs.Entries.{IsPresent}
 use Rattle.repro_laws.specs.Due.{report}
 use Rattle.dvc_base.specs.Answer.{IsAnswer, GainsFront}
 use Rattle.repro_laws.specs.Choices.{fault_of}
 use Rattle.repro_laws.specs.Lock.{IsTruthful}
 use Rattle.repro_laws.specs.Turns.{Standing, standing, Turns, stages_of}
 use Rattle.repro_laws.specs.Headline.{Covers, HasEntry}
-use Rattle.repro_laws.specs.Moments.{is_record, AreSized, HasRun, IsEntryOf, InTurns}
+use Rattle.repro_laws.specs.Moments.{is_record, HasRun, IsEntryOf, InTurns}
 use Rattle.repro_laws.specs.declared.stage.Stage.{Stage}
 use Rattle.repro_laws.specs.declared.stage.Choice.{Choice}
 
@@ -38,15 +38,16 @@ use Rattle.repro_laws.specs.declared.stage.Choice.{Choice}
 abbrev pub lock_by : Option Item → Option Lock
 lock_by None = Some []
 lock_by (Some folder) = None
-lock_by (Some (file text)) = lock_in text
+lock_by (Some (file text)) = result_ok (lock_read text)
 
 abbrev pub lock_of : Tree → Option Lock
 lock_of t = lock_by (item_at t lock_path)
 
--- each entry that the stage may have can be written to a lock, and read back
+-- each entry that the stage may have is in form: it has a command, and none of its dependencies or outputs stands twice
 pub record IsRecordable (s : Stage) : Type 0 where
-  pub name : IsTrue (is_name s.name)
-  pub entries : (t : Tree) (e : Entry) → IsPresent e s t → AreSized e.deps → AreSized e.outs → IsTrue (is_entry e)
+  pub commands : 0 < length s.commands
+  pub deps : IsTrue (is_rising (job_of s).deps)
+  pub outs : IsTrue (is_rising (job_of s).outs)
 
 -- ---- sound moments
 
@@ -82,7 +83,7 @@ IsMetSince book stages m n =
 
 -- what the headline asks for: no two contents that were met share an MD5. That is, there is a book, with one content under
 -- each digest, by which each entry that was remembered is true, and which has what was met
-pub record IsSafe (effect : Effect) (stages : List Stage) (lock : Lock) (m n : Moment) : Type 0 where
+pub record AreReliable (effect : Effect) (stages : List Stage) (lock : Lock) (m n : Moment) : Type 0 where
   pub book : Book
   pub truthful : IsTruthful book effect lock
   pub met : IsMetSince book stages m n
@@ -98,7 +99,6 @@ TurnsAreSound =
     (book : Book) (effect : Effect) (stages : List Stage) (lock : Lock) (m end n : Moment)
     → AllByRecursion IsReady stages
     → AllByRecursion IsOutside stages
-    → AllByRecursion IsRecordable stages
     → lock_of m.tree ≡ Some lock
     → IsSound book effect m
     → IsMetSince book stages m end
@@ -108,8 +108,8 @@ TurnsAreSound =
 -- ---- turns that end with a refusal
 
 -- the turns of some stages have ended, and the next one's was refused as is due. The lock has the entries of those that
--- ended, and that which the next one's run has made only where its publish failed; a failing output changes nothing
-pub record IsStopped (effect : Effect) (stages : List Stage) (lock : Lock) (fault : Fault) (m n : Moment) : Type 0 where
+-- ended, and that which the next one's run has made only where a call to the world failed; a failing output changes nothing
+pub record AreHalted (effect : Effect) (stages : List Stage) (lock : Lock) (fault : Fault) (m n : Moment) : Type 0 where
   pub ended : List (Stage × Choice)
   pub next : Stage
   pub others : List Stage

@@ -1,6 +1,8 @@
-//! Reads a table of `dvc.yaml` texts, whose file's name is the one word, and tells of each row the stages that it says.
+//! Reads a table of `dvc.yaml` texts, whose file's name is the one word, and tells of each row the stages that it says,
+//! and whether it asks outputs for more than that they be made.
 //!
-//! Each line is a text, but for those that begin with `#` and empty ones, which stay as they are.
+//! Each line is a text, but for those that begin with `#` and empty ones, which stay as they are. From the first line on that
+//! begins with `= ` each such line begins a text, which has all lines up to the next one.
 #![tactic(auto)]
 
 mod show;

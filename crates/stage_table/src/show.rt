@@ -2,8 +2,14 @@
 use dvc_base::{NoMemory, Text, Writer};
 use template_expand::{ExpandFault, Out, ParamWant, Stage};
 
-/// Puts the stages, each with what it says; `none` where there is none.
-pub(crate) fn show_stages(out: &mut Writer, stages: &[Stage]) -> Result<(), NoMemory> {
+/// Puts the stages, each with what it says, and whether more is asked than that outputs be made.
+pub(crate) fn show_stages(out: &mut Writer, stages: &[Stage], more: bool) -> Result<(), NoMemory> {
+    show_each(out, stages)?;
+    show_flag(out, more, "; asks more")
+}
+
+// `none` where there is none.
+fn show_each(out: &mut Writer, stages: &[Stage]) -> Result<(), NoMemory> {
     if stages.is_empty() {
         return out.put(b"none");
     }

@@ -4,3 +4,4 @@ pub mod Schema
 pub mod Params
 pub mod Stages
 pub mod Expansion
+pub mod More

@@ -5,6 +5,7 @@ mod build;
 mod check;
 mod expansion;
 mod fault;
+mod more;
 mod node;
 mod outs;
 mod params;
@@ -15,4 +16,5 @@ mod wants;
 
 pub use expansion::expand;
 pub use fault::ExpandFault;
+pub use more::asks_more;
 pub use stage::{Out, Outs, ParamWant, ParamWants, Stage, Stages};

@@ -13,10 +13,10 @@ use std::process::ExitCode;
 use std::rt::Runtime;
 use std::{env, fs, io};
 
-/// The longest text: a line of it has a number below 2^32.
+// The longest text: a line of it has a number below 2^32.
 const MAX_LEN: usize = u32::MAX as usize - 1;
 
-/// The status where the file can't be read, or the output written.
+// The status where the file can't be read, or the output written.
 const FAILURE: u8 = 1;
 
 fn main(rt: HostRuntime) -> ExitCode {

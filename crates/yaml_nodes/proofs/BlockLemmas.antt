@@ -1,9 +1,9 @@
 -- A node of block style, by the number of collections that may stand in one another.
 use Rattle.std.proofs.Common.{◌≡◌, ℕ, zero, suc, ◌-◌, ◌<◌, cond, refl, ap, arith}
 use Rattle.yaml_text.specs.Outcome.{Text, ◌>>=◌}
-use Rattle.yaml_nodes.specs.Block.{begins_item, begins_key, sequence, mapping, inline, shallow, block}
+use Rattle.yaml_nodes.specs.Block.{begins_item, begins_key, sequence, mapping, inline, block_at_limit, block}
 
-pub block_none : (depth least column : ℕ) (t : Text) → depth ≡ 0 → block depth least column t ≡ shallow depth least t
+pub block_none : (depth least column : ℕ) (t : Text) → depth ≡ 0 → block depth least column t ≡ block_at_limit depth least t
 unfolding block
 block_none zero least column t e = refl
 block_none (suc depth) least column t e = absurd (omega arith)

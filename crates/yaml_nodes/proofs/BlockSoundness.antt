@@ -12,7 +12,7 @@ use Rattle.yaml_scalars.specs.Turns.{Turn}
 use Rattle.yaml_scalars.specs.Plain.{begins_plain}
 use Rattle.yaml_scalars.specs.Lines.{lines}
 use Rattle.yaml_scalars.proofs.LinesRules.{lines_sound}
-use Rattle.yaml_nodes.specs.Part.{steps, first, is_quote, opens, too_deep, plain_node, quoted_node, with_pair}
+use Rattle.yaml_nodes.specs.Part.{steps, first, is_quote, begins_form, too_deep, plain_node, quoted_node, with_pair}
 use Rattle.yaml_nodes.specs.Flow.{new_key, flow_node}
 use Rattle.yaml_nodes.specs.Block.{line_end, lines_node, inline, begins_item, begins_key, item, item_below, sequence_turn, sequence, block_key, value, mapping_turn, mapping, block}
 use Rattle.yaml_nodes.specs.Grammar as g
@@ -27,7 +27,7 @@ bind_cond : {A B : Type 0} (b : Bool) (x y : Outcome A) (f : A → Outcome B) �
 bind_cond true x y f = refl
 bind_cond false x y f = refl
 
-inline_form : (depth least : ℕ) (t : Text) → opens t ≡ true → inline depth least t ≡ (flow_node depth t >>= line_end)
+inline_form : (depth least : ℕ) (t : Text) → begins_form t ≡ true → inline depth least t ≡ (flow_node depth t >>= line_end)
 unfolding inline
 inline_form depth least t h = cc
 
@@ -39,7 +39,7 @@ no_quote t (inr h) =
     let d : eqb (first t) 39 ≡ false = ne_eqb (first t) 39 (λ k. absurd (omega arith)) in
     let f : eqb (first t) 34 ≡ false = ne_eqb (first t) 34 (λ k. absurd (omega arith)) in cc
 
-no_form : (t : Text) → (first t ≡ 124) ⊎ (first t ≡ 62) → opens t ≡ false
+no_form : (t : Text) → (first t ≡ 124) ⊎ (first t ≡ 62) → begins_form t ≡ false
 no_form t (inl h) =
     let d : eqb (first t) 91 ≡ false = ne_eqb (first t) 91 (λ k. absurd (omega arith)) in
     let f : eqb (first t) 123 ≡ false = ne_eqb (first t) 123 (λ k. absurd (omega arith)) in cc
@@ -54,7 +54,7 @@ inline_lines depth least t h =
     let d = no_form t which in
     let f = no_quote t which in cc
 
-inline_scalar : (depth least : ℕ) (t : Text) → opens t ≡ false → g.begins_lines t ≡ false → inline depth least t ≡ (scalar_at false least t >>= line_end)
+inline_scalar : (depth least : ℕ) (t : Text) → begins_form t ≡ false → g.begins_lines t ≡ false → inline depth least t ≡ (scalar_at false least t >>= line_end)
 unfolding inline
 inline_scalar depth least t h k =
     let d = bind_cond (is_quote t) (quoted_node t (drop 1 t)) (cond (begins_plain false t) (plain_node false least t) (syntax t)) line_end in

@@ -13,7 +13,7 @@ use Rattle.yaml_text.proofs.OutcomeLemmas.{Gives, given}
 use Rattle.yaml_text.proofs.RuleLemmas.{next_total}
 use Rattle.yaml_scalars.specs.Rules.{IsLines}
 use Rattle.yaml_scalars.proofs.LinesRules.{lines_total}
-use Rattle.yaml_nodes.specs.Part.{first, opens, too_deep, with_pair}
+use Rattle.yaml_nodes.specs.Part.{first, begins_form, too_deep, with_pair}
 use Rattle.yaml_nodes.specs.Block.{begins_item}
 use Rattle.yaml_nodes.specs.Grammar as g
 use Rattle.yaml_nodes.proofs.FlowSoundness.{new_sound, key_sound}
@@ -22,7 +22,7 @@ use Rattle.yaml_nodes.proofs.FlowTotal.{scalar_total, new_total, key_total, ahea
 
 -- ---- scalars and flow forms
 
-form_total : (depth least : ℕ) (t : Text) → opens t ≡ true → Gives (g.IsInline depth least t)
+form_total : (depth least : ℕ) (t : Text) → begins_form t ≡ true → Gives (g.IsInline depth least t)
 form_total depth least t h =
     elim (given (g.IsFlow depth t) (flow_total depth t)) [
       | inl r ↦ elim (given (g.IsBelow r.0.1) (below_total r.0.1))
@@ -37,7 +37,7 @@ lines_node_total depth least t h =
       | inr e ↦ (Err e.0, g.bad_lines h e.1)
     ]
 
-scalar_line_total : (depth least : ℕ) (t : Text) → opens t ≡ false → g.begins_lines t ≡ false → Gives (g.IsInline depth least t)
+scalar_line_total : (depth least : ℕ) (t : Text) → begins_form t ≡ false → g.begins_lines t ≡ false → Gives (g.IsInline depth least t)
 scalar_line_total depth least t h k =
     elim (given (g.IsScalar false least t) (scalar_total false least t)) [
       | inl r ↦ elim (given (g.IsBelow r.0.1) (below_total r.0.1))
@@ -47,7 +47,7 @@ scalar_line_total depth least t h k =
 
 inline_total : (depth least : ℕ) (t : Text) → Gives (g.IsInline depth least t)
 inline_total depth least t =
-    elim (cases_Bool (opens t)) [
+    elim (cases_Bool (begins_form t)) [
       | inl h ↦ form_total depth least t h
       | inr h ↦ elim (cases_Bool (g.begins_lines t)) [ inl k ↦ lines_node_total depth least t k | inr k ↦ scalar_line_total depth least t h k ]
     ]

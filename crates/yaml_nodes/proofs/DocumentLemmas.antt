@@ -6,7 +6,7 @@ use Rattle.std.specs.Str.Lossy.{utf8_valid_len}
 use Rattle.std.proofs.lemmas.List.Recursion.{is_count_by}
 use Rattle.std.proofs.lemmas.List.Sums.{count_by-le-length}
 use Rattle.yaml_text.specs.Outcome.{Text}
-use Rattle.yaml_text.specs.Source.{with_stop, past_mark, with_line_feeds, source}
+use Rattle.yaml_text.specs.Source.{with_null, past_mark, with_line_feeds, source}
 
 -- how many line feeds a text has, by its first byte
 abbrev count : Text → ℕ
@@ -51,7 +51,7 @@ choice_le : (c : Bool) (x y : Text) (n : ℕ) → count x ≤ n → count y ≤ 
 choice_le true x y n h k = h
 choice_le false x y n h k = k
 
-with_stop_le : (t : Text) → count (with_stop t) ≤ count t
+with_stop_le : (t : Text) → count (with_null t) ≤ count t
 with_stop_le t =
     choice_le (is_utf8 t) t (take (utf8_valid_len t) t ++ 0 ∷ drop (utf8_valid_len t) t) (count t) (omega arith) (stop_le (utf8_valid_len t) t)
 
@@ -64,10 +64,10 @@ take_lines n t = omega (arith, take_le n t, counted t, counted (take n t))
 pub source_lines : (bytes : Text) → count_by (λ b. eqb b 10) (source bytes) ≤ count_by (λ b. eqb b 10) bytes
 unfolding source
 source_lines bytes =
-    let a = feeds_le (past_mark (with_stop bytes)) in
-    let b = mark_le (with_stop bytes) in
+    let a = feeds_le (past_mark (with_null bytes)) in
+    let b = mark_le (with_null bytes) in
     let c = with_stop_le bytes in
-    omega (arith, counted bytes, counted (with_line_feeds (past_mark (with_stop bytes))))
+    omega (arith, counted bytes, counted (with_line_feeds (past_mark (with_null bytes))))
 
 pub lines_le : (t : Text) → count_by (λ b. eqb b 10) t ≤ length t
 lines_le t = count_by-le-length (λ b. eqb b 10) t

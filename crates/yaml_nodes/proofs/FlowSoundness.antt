@@ -15,7 +15,7 @@ use Rattle.yaml_scalars.specs.Plain.{begins_plain}
 use Rattle.yaml_scalars.specs.Rules.{IsQuoted}
 use Rattle.yaml_scalars.proofs.QuotedRules.{quoted_sound}
 use Rattle.yaml_scalars.proofs.PlainRules.{plain_sound}
-use Rattle.yaml_nodes.specs.Part.{steps, first, is_quote, opens, plain_node, quoted_node, with_pair}
+use Rattle.yaml_nodes.specs.Part.{steps, first, is_quote, begins_form, plain_node, quoted_node, with_pair}
 use Rattle.yaml_nodes.specs.Flow.{parts_from, between_parts, flow_scalar, item_turn, items, flow_key, flow_value, pair_turn, pairs, flow_form, flow_node}
 use Rattle.yaml_nodes.specs.Flow as flow
 use Rattle.yaml_nodes.specs.Block.{begins_key, block_key}
@@ -315,24 +315,24 @@ a_value depth t u v w x r a b c h n k = let s = value_then depth t u v a b in cc
 
 -- ---- a flow node
 
-scalar_flow : (depth : ℕ) (t : Text) (o : Step Node) → opens t ≡ false → scalar_at true 0 t ≡ o → flow_node depth t ≡ o
+scalar_flow : (depth : ℕ) (t : Text) (o : Step Node) → begins_form t ≡ false → scalar_at true 0 t ≡ o → flow_node depth t ≡ o
 unfolding flow_scalar
 scalar_flow depth t o h is = flow_shallow depth t h ∙ is
 
-opens_at : (t : Text) → (first t ≡ 91) ⊎ (first t ≡ 123) → opens t ≡ true
-opens_at t (inl h) = let d = eq-eqb (first t) 91 h in cc
-opens_at t (inr h) =
+begins_form_at : (t : Text) → (first t ≡ 91) ⊎ (first t ≡ 123) → begins_form t ≡ true
+begins_form_at t (inl h) = let d = eq-eqb (first t) 91 h in cc
+begins_form_at t (inr h) =
     let d = eq-eqb (first t) 123 h in
     let f : eqb (first t) 91 ≡ false = ne_eqb (first t) 91 (λ k. absurd (omega arith)) in cc
 
 sequence_flow : (depth : ℕ) (t : Text) → first t ≡ 91 → flow_node (suc depth) t ≡ items_from depth [] (drop 1 t)
 unfolding flow_form items
-sequence_flow depth t h = deep_by depth t (opens_at t (inl h)) ∙ ap (λ b. cond b (items (flow_node depth) (drop 1 t)) (pairs (flow_node depth) (drop 1 t))) (eq-eqb (first t) 91 h)
+sequence_flow depth t h = deep_by depth t (begins_form_at t (inl h)) ∙ ap (λ b. cond b (items (flow_node depth) (drop 1 t)) (pairs (flow_node depth) (drop 1 t))) (eq-eqb (first t) 91 h)
 
 mapping_flow : (depth : ℕ) (t : Text) → first t ≡ 123 → flow_node (suc depth) t ≡ pairs_from depth [] (drop 1 t)
 unfolding flow_form pairs
 mapping_flow depth t h =
-    deep_by depth t (opens_at t (inr h))
+    deep_by depth t (begins_form_at t (inr h))
     ∙ ap (λ b. cond b (items (flow_node depth) (drop 1 t)) (pairs (flow_node depth) (drop 1 t))) (ne_eqb (first t) 91 (λ k. absurd (omega arith)))
 
 mutual

@@ -17,7 +17,7 @@ use Rattle.yaml_scalars.specs.Kind.{scalar}
 use Rattle.yaml_scalars.specs.Rules.{IsQuoted, IsPlain}
 use Rattle.yaml_scalars.proofs.QuotedRules.{quoted_total}
 use Rattle.yaml_scalars.proofs.PlainRules.{plain_total}
-use Rattle.yaml_nodes.specs.Part.{first, is_quote, opens, too_deep, is_on_one_line, has_key, with_pair}
+use Rattle.yaml_nodes.specs.Part.{first, is_quote, begins_form, too_deep, is_on_one_line, has_key, with_pair}
 use Rattle.yaml_nodes.specs.Flow.{is_pair, begins_bad, behind_plain_key, is_merge, is_key_colon}
 use Rattle.yaml_nodes.specs.Block.{behind_plain}
 use Rattle.yaml_nodes.specs.Grammar as g
@@ -239,10 +239,10 @@ pairs_total depth each (suc n) found t h =
 
 -- ---- a flow node
 
-scalar_node_total : (depth : ℕ) (t : Text) → opens t ≡ false → Gives (g.IsFlow depth t)
+scalar_node_total : (depth : ℕ) (t : Text) → begins_form t ≡ false → Gives (g.IsFlow depth t)
 scalar_node_total depth t h = let s = scalar_total true 0 t in (s.0, g.scalar_node h s.1)
 
-form_total : (depth : ℕ) → Nodes depth → (t : Text) → opens t ≡ true → Gives (g.IsFlow (suc depth) t)
+form_total : (depth : ℕ) → Nodes depth → (t : Text) → begins_form t ≡ true → Gives (g.IsFlow (suc depth) t)
 form_total depth each t h =
     elim (or_eqb (first t) 91 123 h) [
       | inl w ↦ let s = items_total depth each (suc (length (drop 1 t))) [] (drop 1 t) (omega arith) in (s.0, g.flow_sequence w s.1)
@@ -250,5 +250,5 @@ form_total depth each t h =
     ]
 
 pub flow_total : (depth : ℕ) (t : Text) → Gives (g.IsFlow depth t)
-flow_total zero t = elim (cases_Bool (opens t)) [ inl h ↦ (too_deep t, g.too_deep_in_flow h) | inr h ↦ scalar_node_total zero t h ]
-flow_total (suc depth) t = elim (cases_Bool (opens t)) [ inl h ↦ form_total depth (flow_total depth) t h | inr h ↦ scalar_node_total (suc depth) t h ]
+flow_total zero t = elim (cases_Bool (begins_form t)) [ inl h ↦ (too_deep t, g.too_deep_in_flow h) | inr h ↦ scalar_node_total zero t h ]
+flow_total (suc depth) t = elim (cases_Bool (begins_form t)) [ inl h ↦ form_total depth (flow_total depth) t h | inr h ↦ scalar_node_total (suc depth) t h ]

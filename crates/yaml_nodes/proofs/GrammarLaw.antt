@@ -44,7 +44,7 @@ start_total t =
       | inr e ↦ (Err e.0, g.bad_comment e.1)
     ]
 
-root_is : (u : Text) → 0 < length u → spec.root u ≡ (block spec.max_depth 0 (spaces u) (past_spaces u) >>= spec.alone)
+root_is : (u : Text) → 0 < length u → spec.root u ≡ (block spec.max_depth 0 (spaces u) (past_spaces u) >>= spec.sole_node)
 root_is u h = let d : eqb (length u) 0 ≡ false = ne_eqb (length u) 0 (λ k. absurd (omega arith)) in cc
 
 bad_start : (t : Text) (e : Refusal) → start t ≡ Err e → spec.document t ≡ Err e
@@ -56,12 +56,12 @@ unfolding spec.document
 root_at t u o a b = ap (λ o. o >>= spec.root) a ∙ b
 
 bad_node : (u : Text) (e : Refusal) → 0 < length u → block spec.max_depth 0 (spaces u) (past_spaces u) ≡ Err e → spec.root u ≡ Err e
-bad_node u e h b = root_is u h ∙ ap (λ o. o >>= spec.alone) b
+bad_node u e h b = root_is u h ∙ ap (λ o. o >>= spec.sole_node) b
 
-node_at : (u : Text) (r : Node × Text) → 0 < length u → block spec.max_depth 0 (spaces u) (past_spaces u) ≡ Ok r → spec.root u ≡ spec.alone r
-node_at u r h b = root_is u h ∙ ap (λ o. o >>= spec.alone) b
+node_at : (u : Text) (r : Node × Text) → 0 < length u → block spec.max_depth 0 (spaces u) (past_spaces u) ≡ Ok r → spec.root u ≡ spec.sole_node r
+node_at u r h b = root_is u h ∙ ap (λ o. o >>= spec.sole_node) b
 
-behind : (r : Node × Text) → 0 < length r.1 → spec.alone r ≡ syntax r.1
+behind : (r : Node × Text) → 0 < length r.1 → spec.sole_node r ≡ syntax r.1
 behind r h = let d : eqb (length r.1) 0 ≡ false = ne_eqb (length r.1) 0 (λ k. absurd (omega arith)) in cc
 
 pub document_sound : (t : Text) (o : Outcome Node) → g.IsDocument t o → spec.document t ≡ o
@@ -114,7 +114,7 @@ tail_total (b ∷ t) =
 
 -- ---- the whole text
 
-bad_document : (t : Text) (e : Refusal) → spec.document (take (body_len t) t) ≡ Err e → spec.read t ≡ Err (spec.located (spec.place t (take (body_len t) t)) e)
+bad_document : (t : Text) (e : Refusal) → spec.document (take (body_len t) t) ≡ Err e → spec.read t ≡ Err (spec.fault_on_line (spec.refusal_line t (take (body_len t) t)) e)
 unfolding spec.read
 bad_document t e a = ap (λ o. spec.with_body t (take (body_len t) t) (drop (body_len t) t) o) a
 
@@ -132,8 +132,8 @@ whole_total : (t : Text) → (o : Result Node YamlFault) × g.IsWhole t o
 whole_total t =
     elim (given (g.IsDocument (take (body_len t) t)) (document_total (take (body_len t) t))) [
       | inl n ↦ elim (given (g.IsTail (drop (body_len t) t)) (tail_total (drop (body_len t) t)))
-          [ inl u ↦ (Ok n.0, g.a_document n.1 u.1) | inr e ↦ (Err (spec.located (spec.place t t) e.0), g.bad_tail n.1 e.1) ]
-      | inr e ↦ (Err (spec.located (spec.place t (take (body_len t) t)) e.0), g.bad_document e.1)
+          [ inl u ↦ (Ok n.0, g.a_document n.1 u.1) | inr e ↦ (Err (spec.fault_on_line (spec.refusal_line t t) e.0), g.bad_tail n.1 e.1) ]
+      | inr e ↦ (Err (spec.fault_on_line (spec.refusal_line t (take (body_len t) t)) e.0), g.bad_document e.1)
     ]
 
 pub yaml_sound : (bytes : Text) (o : Result Node YamlFault) → g.IsYaml bytes o → spec.parse bytes ≡ o

@@ -15,7 +15,7 @@ use Rattle.yaml_scalars.specs.Quoted.{quoted}
 use Rattle.yaml_scalars.specs.Lines.{lines}
 use Rattle.yaml_scalars.specs.Kind.{scalar}
 use Rattle.yaml_scalars.proofs.WithinLemmas.{TurnLeaves, StepLeaves, quoted_within, plain_within, lines_within}
-use Rattle.yaml_nodes.specs.Part.{steps_within, steps, first, is_quote, opens, too_deep, plain_node, quoted_node, with_pair}
+use Rattle.yaml_nodes.specs.Part.{steps_within, steps, first, is_quote, begins_form, too_deep, plain_node, quoted_node, with_pair}
 use Rattle.yaml_nodes.specs.Flow.{parts_from, between_parts, flow_scalar, is_pair, behind_item, item_at, item_turn, items, begins_bad, behind_plain_key, plain_key, flow_key, new_key, is_key_colon, value_at, flow_value, behind_pair, with_key, pair_at, pair_turn, pairs, flow_form, flow_node}
 use Rattle.yaml_nodes.specs.Block.{line_end, lines_node, inline, begins_item, behind_plain, begins_key, item_below, item, next_item, with_found, sequence_turn, sequence, behind_key, block_key, value_below, value, next_pair, with_value, mapping_turn, mapping, block}
 
@@ -210,9 +210,9 @@ flow_form_within node each n t h =
 
 pub flow_keeps : (depth : ℕ) → Keeps (flow_node depth)
 unfolding flow_node
-flow_keeps zero n t h = chosen_ok (λ (r : Node × Text). length r.1 ≤ n) (opens t) (too_deep t) (flow_scalar t) tt (flow_scalar_within n t h)
+flow_keeps zero n t h = chosen_ok (λ (r : Node × Text). length r.1 ≤ n) (begins_form t) (too_deep t) (flow_scalar t) tt (flow_scalar_within n t h)
 flow_keeps (suc depth) n t h =
-    chosen_ok (λ (r : Node × Text). length r.1 ≤ n) (opens t) (flow_form (flow_node depth) t) (flow_scalar t)
+    chosen_ok (λ (r : Node × Text). length r.1 ≤ n) (begins_form t) (flow_form (flow_node depth) t) (flow_scalar t)
     (flow_form_within (flow_node depth) (flow_keeps depth) n t h) (flow_scalar_within n t h)
 
 -- ---- block style
@@ -236,7 +236,7 @@ ended_within n o h = then_ok (λ (r : Node × Text). length r.1 ≤ n) (λ (r : 
 pub inline_within : (depth least n : ℕ) (t : Text) → length t ≤ n → StepLeaves n (inline depth least t)
 unfolding inline
 inline_within depth least n t h =
-    chosen_ok (λ (r : Node × Text). length r.1 ≤ n) (opens t) (flow_node depth t >>= line_end)
+    chosen_ok (λ (r : Node × Text). length r.1 ≤ n) (begins_form t) (flow_node depth t >>= line_end)
     (cond (is_quote t) (quoted_node t (drop 1 t) >>= line_end)
     (cond (eqb (first t) 124 || eqb (first t) 62) (lines_node least t) (cond (begins_plain false t) (plain_node false least t >>= line_end) (syntax t))))
     (ended_within n (flow_node depth t) (flow_keeps depth n t h))

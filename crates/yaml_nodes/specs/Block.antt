@@ -6,13 +6,14 @@ use Rattle.std.specs.Prelude.{ℕ, zero, suc, ◌+◌, Bool, true, false, ◌&&�
 use Rattle.dvc_base.specs.declared.node.Node.{Node}
 use Rattle.dvc_base.specs.declared.node.Node.TheVariants as nd
 use Rattle.dvc_base.specs.declared.node.Pair.{Pair}
+use Rattle.yaml_text.specs.Characters.{tab, dash, greater_than, bar}
 use Rattle.yaml_text.specs.Outcome.{Text, Outcome, Step, ◌>>=◌, syntax}
 use Rattle.yaml_text.specs.Line.{spaces, past_spaces, past_white, is_rest_empty, rest_of_line, next_line}
 use Rattle.yaml_scalars.specs.Turns.{Turn}
 use Rattle.yaml_scalars.specs.Plain.{is_gap, is_colon, begins_plain, plain_len}
 use Rattle.yaml_scalars.specs.Quoted.{quoted}
 use Rattle.yaml_scalars.specs.Lines.{lines}
-use Rattle.yaml_nodes.specs.Part.{steps, first, is_quote, opens, too_deep, is_on_one_line, plain_node, quoted_node, with_pair}
+use Rattle.yaml_nodes.specs.Part.{steps, first, is_quote, begins_form, too_deep, is_on_one_line, plain_node, quoted_node, with_pair}
 use Rattle.yaml_nodes.specs.Flow.{flow_node, new_key}
 
 -- ---- scalars and flow forms
@@ -22,13 +23,13 @@ abbrev pub line_end : Node × Text → Step Node
 line_end r = rest_of_line false r.1 >>= next_line >>= λ next. Ok (r.0, next)
 
 abbrev pub lines_node : ℕ → Text → Step Node
-lines_node least t = lines (first t == 62) least (drop 1 t) >>= λ r. next_line r.1 >>= λ next. Ok (nd.Text r.0, next)
+lines_node least t = lines (first t == greater_than) least (drop 1 t) >>= λ r. next_line r.1 >>= λ next. Ok (nd.Text r.0, next)
 
 unfoldable pub inline : ℕ → ℕ → Text → Step Node
 inline depth least t =
-    if opens t then flow_node depth t >>= line_end
+    if begins_form t then flow_node depth t >>= line_end
     else if is_quote t then quoted_node t (drop 1 t) >>= line_end
-    else if first t == 124 || first t == 62 then lines_node least t
+    else if first t == bar || first t == greater_than then lines_node least t
     else if begins_plain false t then plain_node false least t >>= line_end
     else syntax t
 
@@ -36,7 +37,7 @@ inline depth least t =
 
 -- a dash and a space, or a dash at the line's end
 abbrev pub begins_item : Text → Bool
-begins_item t = first t == 45 && is_gap (drop 1 t)
+begins_item t = first t == dash && is_gap (drop 1 t)
 
 -- the text behind a plain scalar's part on this line
 abbrev pub behind_plain : Text → Text
@@ -58,7 +59,7 @@ item_below inner column t = if nat_lt column (spaces t) then inner (column + 1) 
 unfoldable pub item : (ℕ → ℕ → Text → Step Node) → ℕ → Text → Step Node
 item inner column t =
     if is_rest_empty t then (rest_of_line false t >>= next_line >>= item_below inner column)
-    else if first (past_spaces t) == 9 then syntax (past_spaces t)
+    else if first (past_spaces t) == tab then syntax (past_spaces t)
     else inner (column + 1) (column + 1 + spaces t) (past_spaces t)
 
 -- at the next line: whether the dash of another item stands there at this column, as the end of a turn
@@ -115,13 +116,13 @@ mapping depth inner column t = steps (mapping_turn depth inner column) [] t >>= 
 -- ---- nodes
 
 -- where no collection may begin
-abbrev pub shallow : ℕ → ℕ → Text → Step Node
-shallow depth least t =
+abbrev pub block_at_limit : ℕ → ℕ → Text → Step Node
+block_at_limit depth least t =
     if begins_item t then too_deep t
     else (begins_key t >>= λ is_key. if is_key then too_deep t else inline depth least t)
 
 unfoldable pub block : ℕ → ℕ → ℕ → Text → Step Node
-block zero least column t = shallow zero least t
+block zero least column t = block_at_limit zero least t
 block (suc depth) least column t =
     if begins_item t then sequence (block depth) column t
     else (begins_key t >>= λ is_key. if is_key then mapping depth (block depth) column t else inline (suc depth) least t)

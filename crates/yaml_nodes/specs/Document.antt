@@ -19,11 +19,11 @@ abbrev pub max_depth : ℕ
 max_depth = 64
 
 -- nothing may follow the node
-abbrev pub alone : Node × Text → Outcome Node
-alone r = if length r.1 == 0 then Ok r.0 else syntax r.1
+abbrev pub sole_node : Node × Text → Outcome Node
+sole_node r = if length r.1 == 0 then Ok r.0 else syntax r.1
 
 abbrev pub root : Text → Outcome Node
-root t = if length t == 0 then Ok nd.Null else (block max_depth 0 (spaces t) (past_spaces t) >>= alone)
+root t = if length t == 0 then Ok nd.Null else (block max_depth 0 (spaces t) (past_spaces t) >>= sole_node)
 
 -- the first line that isn't blank may be `---` (9.1.1)
 abbrev pub past_marker : Text → Outcome Text
@@ -39,22 +39,23 @@ tail t = if length t == 0 then Ok t else rest_of_line false (drop 3 t) >>= first
 -- ---- the line on which a refusal shows
 
 -- where `left` bytes are left of the body of t, and for none of them t's last line
-abbrev pub place : Text → Text → ℕ → ℕ
-place t body left = if left == 0 then line_of t 0 else line_of body left
+abbrev pub refusal_line : Text → Text → ℕ → ℕ
+refusal_line t body left = if left == 0 then line_of t 0 else line_of body left
 
-abbrev pub located : (ℕ → ℕ) → Refusal → YamlFault
-located line (Syntax left) = fault.Syntax (line left)
-located line (Duplicate left) = fault.Duplicate (line left)
-located line (TooDeep left) = fault.TooDeep (line left)
-located line (TooWide left) = fault.TooWide (line left)
+-- the fault of a refusal, by the line of each count of bytes left
+abbrev pub fault_on_line : (ℕ → ℕ) → Refusal → YamlFault
+fault_on_line line (Syntax left) = fault.Syntax (line left)
+fault_on_line line (Duplicate left) = fault.Duplicate (line left)
+fault_on_line line (TooDeep left) = fault.TooDeep (line left)
+fault_on_line line (TooWide left) = fault.TooWide (line left)
 
 abbrev pub with_tail : Text → Node → Outcome Text → Result Node YamlFault
 with_tail t node (Ok rest) = Ok node
-with_tail t node (Err why) = Err (located (place t t) why)
+with_tail t node (Err why) = Err (fault_on_line (refusal_line t t) why)
 
 abbrev pub with_body : Text → Text → Text → Outcome Node → Result Node YamlFault
 with_body t body rest (Ok node) = with_tail t node (tail rest)
-with_body t body rest (Err why) = Err (located (place t body) why)
+with_body t body rest (Err why) = Err (fault_on_line (refusal_line t body) why)
 
 unfoldable pub read : Text → Result Node YamlFault
 read t = with_body t (take (body_len t) t) (drop (body_len t) t) (document (take (body_len t) t))

@@ -16,7 +16,7 @@ use Rattle.yaml_text.specs.Line.{spaces, past_spaces, is_marker}
 use Rattle.yaml_text.specs.Rules.{IsRest, IsFirst, IsNext}
 use Rattle.yaml_text.specs.Source.{source, body_len}
 use Rattle.yaml_nodes.specs.Grammar.{IsBelow, IsBlock}
-use Rattle.yaml_nodes.specs.Document.{max_depth, place, located}
+use Rattle.yaml_nodes.specs.Document.{max_depth, refusal_line, fault_on_line}
 
 -- The first line that isn't blank may be `---` (9.1.1).
 pub data IsStart : Text → Outcome Text → Type 0 where
@@ -44,9 +44,9 @@ pub data IsTail : Text → Outcome Text → Type 0 where
 -- A refusal shows on the line that has the first byte that is left of the document, and where none is left on the text's last line.
 pub data IsWhole : Text → Result Node YamlFault → Type 0 where
   bad_document : {t : Text} {e : Refusal}
-      → IsDocument (take (body_len t) t) (Err e) → IsWhole t (Err (located (place t (take (body_len t) t)) e))
+      → IsDocument (take (body_len t) t) (Err e) → IsWhole t (Err (fault_on_line (refusal_line t (take (body_len t) t)) e))
   bad_tail : {t : Text} {n : Node} {e : Refusal}
-      → IsDocument (take (body_len t) t) (Ok n) → IsTail (drop (body_len t) t) (Err e) → IsWhole t (Err (located (place t t) e))
+      → IsDocument (take (body_len t) t) (Ok n) → IsTail (drop (body_len t) t) (Err e) → IsWhole t (Err (fault_on_line (refusal_line t t) e))
   a_document : {t u : Text} {n : Node} → IsDocument (take (body_len t) t) (Ok n) → IsTail (drop (body_len t) t) (Ok u) → IsWhole t (Ok n)
 
 abbrev pub IsYaml : Text → Result Node YamlFault → Type 0

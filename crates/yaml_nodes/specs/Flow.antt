@@ -6,21 +6,22 @@ use Rattle.dvc_base.specs.declared.node.Node.{Node}
 use Rattle.dvc_base.specs.declared.node.Node.TheVariants as nd
 use Rattle.dvc_base.specs.declared.node.Pair.{Pair}
 use Rattle.yaml_text.specs.declared.refusal.Refusal.TheVariants.{Duplicate}
+use Rattle.yaml_text.specs.Characters.{line_feed, hash, comma, colon, open_bracket, close_bracket, close_brace}
 use Rattle.yaml_text.specs.Outcome.{Text, Outcome, Step, ◌>>=◌, syntax}
 use Rattle.yaml_text.specs.Line.{is_white, is_bad, past_white, is_marker}
 use Rattle.yaml_scalars.specs.Turns.{Turn}
 use Rattle.yaml_scalars.specs.Plain.{is_colon, begins_plain, plain_len}
 use Rattle.yaml_scalars.specs.Quoted.{quoted}
-use Rattle.yaml_nodes.specs.Part.{steps, first, is_quote, opens, too_deep, is_on_one_line, plain_node, quoted_node, has_key, with_pair}
+use Rattle.yaml_nodes.specs.Part.{steps, first, is_quote, begins_form, too_deep, is_on_one_line, plain_node, quoted_node, has_key, with_pair}
 
 -- `may`: a comment may begin here; `inside`: t lies in a comment
 abbrev pub parts_from : Bool → Bool → Text → Outcome Text
 parts_from may inside [] = Ok []
 parts_from may inside (b ∷ t) =
-    if b == 10 then (if is_marker t then syntax t else parts_from true false t)
+    if b == line_feed then (if is_marker t then syntax t else parts_from true false t)
     else if inside then (if is_bad b then syntax (b ∷ t) else parts_from true true t)
     else if is_white b then parts_from true false t
-    else if may && b == 35 then parts_from true true t
+    else if may && b == hash then parts_from true true t
     else Ok (b ∷ t)
 
 unfoldable pub between_parts : Text → Outcome Text
@@ -34,24 +35,24 @@ flow_scalar t =
 
 -- ---- items. `node` reads what stands in them
 
--- whether the item at t, behind which `rest` is left, is the key of a pair with its `:` at `colon`
+-- whether the item at t, behind which `rest` is left, is the key of a pair with its `:` at `next`
 unfoldable pub is_pair : Text → Text → Text → Bool
-is_pair t rest colon =
-    if is_quote t then first colon == 58
-    else if opens t then false
-    else is_colon true colon && is_on_one_line t rest
+is_pair t rest next =
+    if is_quote t then first next == colon
+    else if begins_form t then false
+    else is_colon true next && is_on_one_line t rest
 
 -- behind an item: t is at the item, `rest` behind it, and the last argument at the next part
 abbrev pub behind_item : List Node → Text → Text → Text → Outcome (Turn (List Node))
 behind_item found t rest next =
-    if first next == 44 then Ok (false, (found, drop 1 next))
-    else if first next == 93 then Ok (true, (found, drop 1 next))
+    if first next == comma then Ok (false, (found, drop 1 next))
+    else if first next == close_bracket then Ok (true, (found, drop 1 next))
     else if is_pair t rest next then syntax t
     else syntax next
 
 abbrev pub item_at : (Text → Step Node) → List Node → Text → Outcome (Turn (List Node))
 item_at node found t =
-    if first t == 93 then Ok (true, (found, drop 1 t))
+    if first t == close_bracket then Ok (true, (found, drop 1 t))
     else (node t >>= λ r. between_parts r.1 >>= λ next. behind_item (found ++ r.0 ∷ []) t r.1 next)
 
 unfoldable pub item_turn : (Text → Step Node) → List Node → Text → Outcome (Turn (List Node))
@@ -92,10 +93,10 @@ new_key found t key = if is_merge t key then syntax t else if has_key key found 
 
 -- after a quoted key the `:` needs no space
 abbrev pub is_key_colon : Text → Text → Bool
-is_key_colon t next = if is_quote t then first next == 58 else is_colon true next
+is_key_colon t next = if is_quote t then first next == colon else is_colon true next
 
 abbrev pub value_at : (Text → Step Node) → Text → Step Node
-value_at node t = if first t == 44 || first t == 125 then Ok (nd.Null, t) else node t
+value_at node t = if first t == comma || first t == close_brace then Ok (nd.Null, t) else node t
 
 -- behind a key: its value, and what is left from the next part on
 unfoldable pub flow_value : (Text → Step Node) → Text → Text → Step Node
@@ -106,8 +107,8 @@ flow_value node t next =
 
 abbrev pub behind_pair : List Pair → Text → Outcome (Turn (List Pair))
 behind_pair found next =
-    if first next == 44 then Ok (false, (found, drop 1 next))
-    else if first next == 125 then Ok (true, (found, drop 1 next))
+    if first next == comma then Ok (false, (found, drop 1 next))
+    else if first next == close_brace then Ok (true, (found, drop 1 next))
     else syntax next
 
 -- a pair: its key, its value, and what stands behind it
@@ -119,7 +120,7 @@ with_key node found t key =
     behind_pair (with_pair found name value.0) value.1
 
 abbrev pub pair_at : (Text → Step Node) → List Pair → Text → Outcome (Turn (List Pair))
-pair_at node found t = if first t == 125 then Ok (true, (found, drop 1 t)) else (flow_key t >>= with_key node found t)
+pair_at node found t = if first t == close_brace then Ok (true, (found, drop 1 t)) else (flow_key t >>= with_key node found t)
 
 unfoldable pub pair_turn : (Text → Step Node) → List Pair → Text → Outcome (Turn (List Pair))
 pair_turn node found t = between_parts t >>= pair_at node found
@@ -130,8 +131,8 @@ pairs node t = steps (pair_turn node) [] t >>= λ r. Ok (nd.Pairs r.0, r.1)
 -- ---- nodes
 
 unfoldable pub flow_form : (Text → Step Node) → Text → Step Node
-flow_form node t = if first t == 91 then items node (drop 1 t) else pairs node (drop 1 t)
+flow_form node t = if first t == open_bracket then items node (drop 1 t) else pairs node (drop 1 t)
 
 unfoldable pub flow_node : ℕ → Text → Step Node
-flow_node zero t = if opens t then too_deep t else flow_scalar t
-flow_node (suc depth) t = if opens t then flow_form (flow_node depth) t else flow_scalar t
+flow_node zero t = if begins_form t then too_deep t else flow_scalar t
+flow_node (suc depth) t = if begins_form t then flow_form (flow_node depth) t else flow_scalar t

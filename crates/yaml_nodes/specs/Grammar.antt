@@ -16,13 +16,14 @@ use Rattle.dvc_base.specs.declared.node.Node.TheVariants as nd
 use Rattle.dvc_base.specs.declared.node.Pair.{Pair}
 use Rattle.yaml_text.specs.declared.refusal.Refusal.{Refusal}
 use Rattle.yaml_text.specs.declared.refusal.Refusal.TheVariants.{Duplicate}
+use Rattle.yaml_text.specs.Characters.{tab, line_feed, hash, comma, greater_than, open_bracket, close_bracket, open_brace, bar, close_brace}
 use Rattle.yaml_text.specs.Outcome.{Text, Outcome, Step, syntax}
 use Rattle.yaml_text.specs.Line.{is_white, spaces, past_spaces, past_white, is_rest_empty, is_marker}
 use Rattle.yaml_text.specs.Rules.{IsComment, IsRest, IsNext}
 use Rattle.yaml_scalars.specs.Plain.{is_colon, begins_plain, plain_len}
 use Rattle.yaml_scalars.specs.Kind.{scalar}
 use Rattle.yaml_scalars.specs.Rules.{IsQuoted, IsPlain, IsLines}
-use Rattle.yaml_nodes.specs.Part.{first, is_quote, opens, too_deep, is_on_one_line, has_key, with_pair}
+use Rattle.yaml_nodes.specs.Part.{first, is_quote, begins_form, too_deep, is_on_one_line, has_key, with_pair}
 use Rattle.yaml_nodes.specs.Flow.{is_pair, begins_bad, behind_plain_key, is_merge, is_key_colon}
 use Rattle.yaml_nodes.specs.Block.{begins_item, behind_plain}
 
@@ -86,72 +87,72 @@ pub data IsKeyAhead : Text → Outcome Bool → Type 0 where
 -- `may`: a comment may begin here. A line `---` stands in no node (9.1.1).
 pub data IsGap : Bool → Text → Outcome Text → Type 0 where
   text_ends : {may : Bool} → IsGap may [] (Ok [])
-  line_ends : {may : Bool} {t : Text} {o : Outcome Text} → is_marker t ≡ false → IsGap true t o → IsGap may (10 ∷ t) o
-  marker : {may : Bool} {t : Text} → is_marker t ≡ true → IsGap may (10 ∷ t) (syntax t)
+  line_ends : {may : Bool} {t : Text} {o : Outcome Text} → is_marker t ≡ false → IsGap true t o → IsGap may (line_feed ∷ t) o
+  marker : {may : Bool} {t : Text} → is_marker t ≡ true → IsGap may (line_feed ∷ t) (syntax t)
   white : {may : Bool} {b : ℕ} {t : Text} {o : Outcome Text} → is_white b ≡ true → IsGap true t o → IsGap may (b ∷ t) o
-  bad_comment : {t : Text} {e : Refusal} → IsComment t (Err e) → IsGap true (35 ∷ t) (Err e)
-  behind_comment : {t u : Text} {o : Outcome Text} → IsComment t (Ok u) → is_marker u ≡ false → IsGap true u o → IsGap true (35 ∷ t) o
-  marker_behind_comment : {t u : Text} → IsComment t (Ok u) → is_marker u ≡ true → IsGap true (35 ∷ t) (syntax u)
-  no_comment : {t : Text} → IsGap false (35 ∷ t) (Ok (35 ∷ t))
-  a_part : {may : Bool} {b : ℕ} {t : Text} → b ≢ 10 → is_white b ≡ false → b ≢ 35 → IsGap may (b ∷ t) (Ok (b ∷ t))
+  bad_comment : {t : Text} {e : Refusal} → IsComment t (Err e) → IsGap true (hash ∷ t) (Err e)
+  behind_comment : {t u : Text} {o : Outcome Text} → IsComment t (Ok u) → is_marker u ≡ false → IsGap true u o → IsGap true (hash ∷ t) o
+  marker_behind_comment : {t u : Text} → IsComment t (Ok u) → is_marker u ≡ true → IsGap true (hash ∷ t) (syntax u)
+  no_comment : {t : Text} → IsGap false (hash ∷ t) (Ok (hash ∷ t))
+  a_part : {may : Bool} {b : ℕ} {t : Text} → b ≢ line_feed → is_white b ≡ false → b ≢ hash → IsGap may (b ∷ t) (Ok (b ∷ t))
 
 -- ---- flow style
 
 -- Where a value is left out, a comma or the closing brace follows (7.4.2).
 abbrev pub ends_pair : Text → Bool
-ends_pair t = first t == 44 || first t == 125
+ends_pair t = first t == comma || first t == close_brace
 
 mutual
   pub data IsFlow : ℕ → Text → Step Node → Type 0 where
-    scalar_node : {depth : ℕ} {t : Text} {o : Step Node} → opens t ≡ false → IsScalar true 0 t o → IsFlow depth t o
-    too_deep_in_flow : {t : Text} → opens t ≡ true → IsFlow zero t (too_deep t)
-    flow_sequence : {depth : ℕ} {t : Text} {o : Step Node} → first t ≡ 91 → IsItems depth [] (drop 1 t) o → IsFlow (suc depth) t o
-    flow_mapping : {depth : ℕ} {t : Text} {o : Step Node} → first t ≡ 123 → IsPairs depth [] (drop 1 t) o → IsFlow (suc depth) t o
+    scalar_node : {depth : ℕ} {t : Text} {o : Step Node} → begins_form t ≡ false → IsScalar true 0 t o → IsFlow depth t o
+    too_deep_in_flow : {t : Text} → begins_form t ≡ true → IsFlow zero t (too_deep t)
+    flow_sequence : {depth : ℕ} {t : Text} {o : Step Node} → first t ≡ open_bracket → IsItems depth [] (drop 1 t) o → IsFlow (suc depth) t o
+    flow_mapping : {depth : ℕ} {t : Text} {o : Step Node} → first t ≡ open_brace → IsPairs depth [] (drop 1 t) o → IsFlow (suc depth) t o
 
   -- behind `[` or a comma, where these items were found (7.4.1)
   pub data IsItems : ℕ → List Node → Text → Step Node → Type 0 where
     item_gap : {depth : ℕ} {found : List Node} {t : Text} {e : Refusal} → IsGap false t (Err e) → IsItems depth found t (Err e)
     items_end : {depth : ℕ} {found : List Node} {t u : Text}
-        → IsGap false t (Ok u) → first u ≡ 93 → IsItems depth found t (Ok (nd.Items found, drop 1 u))
+        → IsGap false t (Ok u) → first u ≡ close_bracket → IsItems depth found t (Ok (nd.Items found, drop 1 u))
     bad_item : {depth : ℕ} {found : List Node} {t u : Text} {e : Refusal}
-        → IsGap false t (Ok u) → first u ≢ 93 → IsFlow depth u (Err e) → IsItems depth found t (Err e)
+        → IsGap false t (Ok u) → first u ≢ close_bracket → IsFlow depth u (Err e) → IsItems depth found t (Err e)
     behind_item : {depth : ℕ} {found : List Node} {t u : Text} {r : Node × Text} {e : Refusal}
-        → IsGap false t (Ok u) → first u ≢ 93 → IsFlow depth u (Ok r) → IsGap false r.1 (Err e) → IsItems depth found t (Err e)
+        → IsGap false t (Ok u) → first u ≢ close_bracket → IsFlow depth u (Ok r) → IsGap false r.1 (Err e) → IsItems depth found t (Err e)
     one_item : {depth : ℕ} {found : List Node} {t u v : Text} {r : Node × Text} {o : Step Node}
-        → IsGap false t (Ok u) → first u ≢ 93 → IsFlow depth u (Ok r) → IsGap false r.1 (Ok v)
-        → first v ≡ 44 → IsItems depth (found ++ r.0 ∷ []) (drop 1 v) o → IsItems depth found t o
+        → IsGap false t (Ok u) → first u ≢ close_bracket → IsFlow depth u (Ok r) → IsGap false r.1 (Ok v)
+        → first v ≡ comma → IsItems depth (found ++ r.0 ∷ []) (drop 1 v) o → IsItems depth found t o
     last_item : {depth : ℕ} {found : List Node} {t u v : Text} {r : Node × Text}
-        → IsGap false t (Ok u) → first u ≢ 93 → IsFlow depth u (Ok r) → IsGap false r.1 (Ok v)
-        → first v ≡ 93 → IsItems depth found t (Ok (nd.Items (found ++ r.0 ∷ []), drop 1 v))
+        → IsGap false t (Ok u) → first u ≢ close_bracket → IsFlow depth u (Ok r) → IsGap false r.1 (Ok v)
+        → first v ≡ close_bracket → IsItems depth found t (Ok (nd.Items (found ++ r.0 ∷ []), drop 1 v))
     -- a pair without braces, which is left out of the profile
     single_pair : {depth : ℕ} {found : List Node} {t u v : Text} {r : Node × Text}
-        → IsGap false t (Ok u) → first u ≢ 93 → IsFlow depth u (Ok r) → IsGap false r.1 (Ok v)
-        → first v ≢ 44 → first v ≢ 93 → is_pair u r.1 v ≡ true → IsItems depth found t (syntax u)
+        → IsGap false t (Ok u) → first u ≢ close_bracket → IsFlow depth u (Ok r) → IsGap false r.1 (Ok v)
+        → first v ≢ comma → first v ≢ close_bracket → is_pair u r.1 v ≡ true → IsItems depth found t (syntax u)
     no_item_comma : {depth : ℕ} {found : List Node} {t u v : Text} {r : Node × Text}
-        → IsGap false t (Ok u) → first u ≢ 93 → IsFlow depth u (Ok r) → IsGap false r.1 (Ok v)
-        → first v ≢ 44 → first v ≢ 93 → is_pair u r.1 v ≡ false → IsItems depth found t (syntax v)
+        → IsGap false t (Ok u) → first u ≢ close_bracket → IsFlow depth u (Ok r) → IsGap false r.1 (Ok v)
+        → first v ≢ comma → first v ≢ close_bracket → is_pair u r.1 v ≡ false → IsItems depth found t (syntax v)
 
   -- behind `{` or a comma, where these pairs were found (7.4.2)
   pub data IsPairs : ℕ → List Pair → Text → Step Node → Type 0 where
     pair_gap : {depth : ℕ} {found : List Pair} {t : Text} {e : Refusal} → IsGap false t (Err e) → IsPairs depth found t (Err e)
     pairs_end : {depth : ℕ} {found : List Pair} {t u : Text}
-        → IsGap false t (Ok u) → first u ≡ 125 → IsPairs depth found t (Ok (nd.Pairs found, drop 1 u))
+        → IsGap false t (Ok u) → first u ≡ close_brace → IsPairs depth found t (Ok (nd.Pairs found, drop 1 u))
     bad_key : {depth : ℕ} {found : List Pair} {t u : Text} {e : Refusal}
-        → IsGap false t (Ok u) → first u ≢ 125 → IsFlowKey u (Err e) → IsPairs depth found t (Err e)
+        → IsGap false t (Ok u) → first u ≢ close_brace → IsFlowKey u (Err e) → IsPairs depth found t (Err e)
     old_key : {depth : ℕ} {found : List Pair} {t u : Text} {k : Text × Text} {e : Refusal}
-        → IsGap false t (Ok u) → first u ≢ 125 → IsFlowKey u (Ok k) → IsNew found u k.0 (Err e) → IsPairs depth found t (Err e)
+        → IsGap false t (Ok u) → first u ≢ close_brace → IsFlowKey u (Ok k) → IsNew found u k.0 (Err e) → IsPairs depth found t (Err e)
     bad_value : {depth : ℕ} {found : List Pair} {t u name : Text} {k : Text × Text} {e : Refusal}
-        → IsGap false t (Ok u) → first u ≢ 125 → IsFlowKey u (Ok k) → IsNew found u k.0 (Ok name)
+        → IsGap false t (Ok u) → first u ≢ close_brace → IsFlowKey u (Ok k) → IsNew found u k.0 (Ok name)
         → IsFlowValue depth u k.1 (Err e) → IsPairs depth found t (Err e)
     one_pair : {depth : ℕ} {found : List Pair} {t u name : Text} {k : Text × Text} {r : Node × Text} {o : Step Node}
-        → IsGap false t (Ok u) → first u ≢ 125 → IsFlowKey u (Ok k) → IsNew found u k.0 (Ok name)
-        → IsFlowValue depth u k.1 (Ok r) → first r.1 ≡ 44 → IsPairs depth (with_pair found name r.0) (drop 1 r.1) o → IsPairs depth found t o
+        → IsGap false t (Ok u) → first u ≢ close_brace → IsFlowKey u (Ok k) → IsNew found u k.0 (Ok name)
+        → IsFlowValue depth u k.1 (Ok r) → first r.1 ≡ comma → IsPairs depth (with_pair found name r.0) (drop 1 r.1) o → IsPairs depth found t o
     last_pair : {depth : ℕ} {found : List Pair} {t u name : Text} {k : Text × Text} {r : Node × Text}
-        → IsGap false t (Ok u) → first u ≢ 125 → IsFlowKey u (Ok k) → IsNew found u k.0 (Ok name)
-        → IsFlowValue depth u k.1 (Ok r) → first r.1 ≡ 125 → IsPairs depth found t (Ok (nd.Pairs (with_pair found name r.0), drop 1 r.1))
+        → IsGap false t (Ok u) → first u ≢ close_brace → IsFlowKey u (Ok k) → IsNew found u k.0 (Ok name)
+        → IsFlowValue depth u k.1 (Ok r) → first r.1 ≡ close_brace → IsPairs depth found t (Ok (nd.Pairs (with_pair found name r.0), drop 1 r.1))
     no_pair_comma : {depth : ℕ} {found : List Pair} {t u name : Text} {k : Text × Text} {r : Node × Text}
-        → IsGap false t (Ok u) → first u ≢ 125 → IsFlowKey u (Ok k) → IsNew found u k.0 (Ok name)
-        → IsFlowValue depth u k.1 (Ok r) → first r.1 ≢ 44 → first r.1 ≢ 125 → IsPairs depth found t (syntax r.1)
+        → IsGap false t (Ok u) → first u ≢ close_brace → IsFlowKey u (Ok k) → IsNew found u k.0 (Ok name)
+        → IsFlowValue depth u k.1 (Ok r) → first r.1 ≢ comma → first r.1 ≢ close_brace → IsPairs depth found t (syntax r.1)
 
   -- the value of the key at t, behind which u is left, and the text from the next part on (7.4.2)
   pub data IsFlowValue : ℕ → Text → Text → Step Node → Type 0 where
@@ -181,27 +182,27 @@ pub data IsBelow : Text → Outcome Text → Type 0 where
 
 -- `|` or `>`, which begins a block scalar (8.1)
 abbrev pub begins_lines : Text → Bool
-begins_lines t = first t == 124 || first t == 62
+begins_lines t = first t == bar || first t == greater_than
 
 pub data IsInline : ℕ → ℕ → Text → Step Node → Type 0 where
-  bad_form : {depth least : ℕ} {t : Text} {e : Refusal} → opens t ≡ true → IsFlow depth t (Err e) → IsInline depth least t (Err e)
+  bad_form : {depth least : ℕ} {t : Text} {e : Refusal} → begins_form t ≡ true → IsFlow depth t (Err e) → IsInline depth least t (Err e)
   behind_form : {depth least : ℕ} {t : Text} {r : Node × Text} {e : Refusal}
-      → opens t ≡ true → IsFlow depth t (Ok r) → IsBelow r.1 (Err e) → IsInline depth least t (Err e)
+      → begins_form t ≡ true → IsFlow depth t (Ok r) → IsBelow r.1 (Err e) → IsInline depth least t (Err e)
   a_form : {depth least : ℕ} {t u : Text} {r : Node × Text}
-      → opens t ≡ true → IsFlow depth t (Ok r) → IsBelow r.1 (Ok u) → IsInline depth least t (Ok (r.0, u))
+      → begins_form t ≡ true → IsFlow depth t (Ok r) → IsBelow r.1 (Ok u) → IsInline depth least t (Ok (r.0, u))
   bad_lines : {depth least : ℕ} {t : Text} {e : Refusal}
-      → begins_lines t ≡ true → IsLines (first t == 62) least (drop 1 t) (Err e) → IsInline depth least t (Err e)
+      → begins_lines t ≡ true → IsLines (first t == greater_than) least (drop 1 t) (Err e) → IsInline depth least t (Err e)
   behind_lines : {depth least : ℕ} {t : Text} {r : Text × Text} {e : Refusal}
-      → begins_lines t ≡ true → IsLines (first t == 62) least (drop 1 t) (Ok r) → IsNext r.1 (Err e) → IsInline depth least t (Err e)
+      → begins_lines t ≡ true → IsLines (first t == greater_than) least (drop 1 t) (Ok r) → IsNext r.1 (Err e) → IsInline depth least t (Err e)
   some_lines : {depth least : ℕ} {t u : Text} {r : Text × Text}
-      → begins_lines t ≡ true → IsLines (first t == 62) least (drop 1 t) (Ok r) → IsNext r.1 (Ok u)
+      → begins_lines t ≡ true → IsLines (first t == greater_than) least (drop 1 t) (Ok r) → IsNext r.1 (Ok u)
       → IsInline depth least t (Ok (nd.Text r.0, u))
   bad_scalar : {depth least : ℕ} {t : Text} {e : Refusal}
-      → opens t ≡ false → begins_lines t ≡ false → IsScalar false least t (Err e) → IsInline depth least t (Err e)
+      → begins_form t ≡ false → begins_lines t ≡ false → IsScalar false least t (Err e) → IsInline depth least t (Err e)
   behind_scalar : {depth least : ℕ} {t : Text} {r : Node × Text} {e : Refusal}
-      → opens t ≡ false → begins_lines t ≡ false → IsScalar false least t (Ok r) → IsBelow r.1 (Err e) → IsInline depth least t (Err e)
+      → begins_form t ≡ false → begins_lines t ≡ false → IsScalar false least t (Ok r) → IsBelow r.1 (Err e) → IsInline depth least t (Err e)
   a_scalar : {depth least : ℕ} {t u : Text} {r : Node × Text}
-      → opens t ≡ false → begins_lines t ≡ false → IsScalar false least t (Ok r) → IsBelow r.1 (Ok u) → IsInline depth least t (Ok (r.0, u))
+      → begins_form t ≡ false → begins_lines t ≡ false → IsScalar false least t (Ok r) → IsBelow r.1 (Ok u) → IsInline depth least t (Ok (r.0, u))
 
 -- ---- block style
 
@@ -251,9 +252,9 @@ mutual
     no_entry : {depth column : ℕ} {t u : Text}
         → is_rest_empty t ≡ true → IsBelow t (Ok u) → spaces u ≤ column → IsEntry depth column t (Ok (nd.Null, u))
     a_tab : {depth column : ℕ} {t : Text}
-        → is_rest_empty t ≡ false → first (past_spaces t) ≡ 9 → IsEntry depth column t (syntax (past_spaces t))
+        → is_rest_empty t ≡ false → first (past_spaces t) ≡ tab → IsEntry depth column t (syntax (past_spaces t))
     entry_beside : {depth column : ℕ} {t : Text} {o : Step Node}
-        → is_rest_empty t ≡ false → first (past_spaces t) ≢ 9 → IsBlock depth (column + 1) (column + 1 + spaces t) (past_spaces t) o
+        → is_rest_empty t ≡ false → first (past_spaces t) ≢ tab → IsBlock depth (column + 1) (column + 1 + spaces t) (past_spaces t) o
         → IsEntry depth column t o
 
   -- at a key, behind these pairs (8.2.2)

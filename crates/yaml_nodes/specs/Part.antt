@@ -1,5 +1,6 @@
 -- What nodes of flow and of block style share.
---     is_quote t, opens t       t begins with a quote, or with `[` or `{`
+--     is_quote t                t begins with a quote
+--     begins_form t             t begins with `[` or `{`
 --     plain_node, quoted_node   a scalar as a node (7.3), and what is left behind it
 --     has_key k ps              one of the pairs has this key
 --     steps turn s t            what is found after the last turn, and what is left behind it
@@ -9,6 +10,7 @@ use Rattle.dvc_base.specs.declared.node.Node.{Node}
 use Rattle.dvc_base.specs.declared.node.Node.TheVariants as nd
 use Rattle.dvc_base.specs.declared.node.Pair.{Pair, out-Pair, roll-Pair}
 use Rattle.yaml_text.specs.declared.refusal.Refusal.TheVariants.{TooDeep, Duplicate}
+use Rattle.yaml_text.specs.Characters.{line_feed, double_quote, single_quote, open_bracket, open_brace}
 use Rattle.yaml_text.specs.Outcome.{Text, Outcome, Step, ◌>>=◌, syntax}
 use Rattle.yaml_scalars.specs.Turns.{Turn}
 use Rattle.yaml_scalars.specs.Plain.{plain}
@@ -30,17 +32,17 @@ abbrev pub first : Text → ℕ
 first t = slice_index t 0
 
 abbrev pub is_quote : Text → Bool
-is_quote t = first t == 39 || first t == 34
+is_quote t = first t == single_quote || first t == double_quote
 
-abbrev pub opens : Text → Bool
-opens t = first t == 91 || first t == 123
+abbrev pub begins_form : Text → Bool
+begins_form t = first t == open_bracket || first t == open_brace
 
 abbrev pub too_deep : {A : Type 0} → Text → Outcome A
 too_deep t = Err (TooDeep (length t))
 
 -- no line ends between t and what is left of it
 abbrev pub is_on_one_line : Text → Text → Bool
-is_on_one_line t rest = not (list_any (λ b. b == 10) (take (length t - length rest) t))
+is_on_one_line t rest = not (list_any (λ b. b == line_feed) (take (length t - length rest) t))
 
 unfoldable pub plain_node : Bool → ℕ → Text → Step Node
 plain_node flow least t = plain flow least t >>= λ r. scalar (length t) r.0 >>= λ node. Ok (node, r.1)

@@ -7,17 +7,17 @@ ghost use Rattle.yaml_nodes.specs.Block as spec;
 
 use crate::flow::{flow_node, new_key};
 use crate::pairing::Pairing;
-use crate::part::{is_on_one_line, is_quote, opens, plain_node, quoted_node, too_deep};
+use crate::part::{begins_form, is_on_one_line, is_quote, plain_node, quoted_node, too_deep};
 use dvc_base::{Node, Nodes, Text};
 use std::alloc::Global;
 use yaml_scalars::{begins_plain, block_scalar, is_colon, plain_len, quoted_scalar};
 use yaml_text::{
-    Stop, behind, byte, is_rest_empty, next_line, past_spaces, past_white, rest_of_line, spaces,
+    Halt, behind, byte, is_rest_empty, next_line, past_spaces, past_white, rest_of_line, spaces,
     syntax, text_of,
 };
 
-/// Behind a node only a comment may follow on its line. What is left begins the next line.
-fn line_end(node: Node, rest: &[u8]) -> Result<(Node, &[u8]), Stop>
+// Behind a node only a comment may follow on its line. What is left begins the next line.
+fn line_end(node: Node, rest: &[u8]) -> Result<(Node, &[u8]), Halt>
     ensures exact { Reads (λ r. (r.0, r.1.now)) result (spec.line_end (node, rest.now)) }
     ensures within { IfOk result (λ r. length r.1.now ≤ length rest.now) }
     ensures refused { IfErr result IsRefused }
@@ -26,7 +26,7 @@ fn line_end(node: Node, rest: &[u8]) -> Result<(Node, &[u8]), Stop>
     Ok((node, next_line(below)?))
 }
 
-fn lines_node(alloc: Global, least: usize, text: &[u8]) -> Result<(Node, &[u8]), Stop>
+fn lines_node(alloc: Global, least: usize, text: &[u8]) -> Result<(Node, &[u8]), Halt>
     ensures exact { Reads (λ r. (r.0, r.1.now)) result (spec.lines_node least text.now) }
     ensures within { IfOk result (λ r. length r.1.now ≤ length text.now) }
 {
@@ -34,13 +34,13 @@ fn lines_node(alloc: Global, least: usize, text: &[u8]) -> Result<(Node, &[u8]),
     Ok((Node::Text(content), next_line(rest)?))
 }
 
-/// A scalar or flow form, whose further lines have at least this indentation.
+// A scalar or flow form, whose further lines have at least this indentation.
 #[tactic(auto, unfolding(crate::specs::Block::inline))]
-fn inline(alloc: Global, depth: usize, least: usize, text: &[u8]) -> Result<(Node, &[u8]), Stop>
+fn inline(alloc: Global, depth: usize, least: usize, text: &[u8]) -> Result<(Node, &[u8]), Halt>
     ensures exact { Reads (λ r. (r.0, r.1.now)) result (spec.inline depth least text.now) }
     ensures within { IfOk result (λ r. length r.1.now ≤ length text.now) }
 {
-    if opens(text) {
+    if begins_form(text) {
         let (node, rest) = flow_node(alloc, depth, text)?;
         line_end(node, rest)
     } else if is_quote(text) {
@@ -62,14 +62,14 @@ fn is_gap(text: &[u8]) -> bool
     text.len() == 0 || byte(text, 0) == b' ' || byte(text, 0) == b'\n'
 }
 
-/// Whether a line begins with a dash and a space, or with a dash at its end.
+// Whether a line begins with a dash and a space, or with a dash at its end.
 fn begins_item(text: &[u8]) -> bool
     ensures { result ≡ spec.begins_item text.now }
 {
     byte(text, 0) == b'-' && is_gap(behind(text, 1))
 }
 
-/// The text behind a plain scalar's part on this line.
+// The text behind a plain scalar's part on this line.
 fn behind_plain(text: &[u8]) -> &[u8]
     ensures value { result.now ≡ spec.behind_plain text.now }
     ensures within { length result.now ≤ length text.now }
@@ -77,9 +77,9 @@ fn behind_plain(text: &[u8]) -> &[u8]
     past_white(behind(text, plain_len(false, text)))
 }
 
-/// Whether a line begins with a key.
+// Whether a line begins with a key.
 #[tactic(auto, unfolding(crate::specs::Block::begins_key))]
-fn begins_key(alloc: Global, text: &[u8]) -> Result<bool, Stop>
+fn begins_key(alloc: Global, text: &[u8]) -> Result<bool, Halt>
     ensures exact { Reads (λ is_key. is_key) result (spec.begins_key text.now) }
 {
     if is_quote(text) {
@@ -90,7 +90,7 @@ fn begins_key(alloc: Global, text: &[u8]) -> Result<bool, Stop>
     }
 }
 
-fn behind_key(is_end: bool, key: Text, text: &[u8]) -> Result<(Text, &[u8]), Stop>
+fn behind_key(is_end: bool, key: Text, text: &[u8]) -> Result<(Text, &[u8]), Halt>
     ensures exact { Reads (λ r. (r.0, r.1.now)) result (spec.behind_key is_end key text.now) }
     ensures within { IfOk result (λ r. length r.1.now ≤ length text.now) }
     ensures shorter { IfOk result (λ r. 0 < length text.now → length r.1.now < length text.now) }
@@ -103,9 +103,9 @@ fn behind_key(is_end: bool, key: Text, text: &[u8]) -> Result<(Text, &[u8]), Sto
     }
 }
 
-/// A key on one line, and the text behind its `:`.
+// A key on one line, and the text behind its `:`.
 #[tactic(auto, unfolding(crate::specs::Block::block_key))]
-fn block_key(alloc: Global, text: &[u8]) -> Result<(Text, &[u8]), Stop>
+fn block_key(alloc: Global, text: &[u8]) -> Result<(Text, &[u8]), Halt>
     ensures exact { Reads (λ r. (r.0, r.1.now)) result (spec.block_key text.now) }
     ensures shorter { IfOk result (λ r. length r.1.now < length text.now) }
 {
@@ -122,7 +122,7 @@ fn block_key(alloc: Global, text: &[u8]) -> Result<(Text, &[u8]), Stop>
     }
 }
 
-/// Whether nothing but a comment follows on the line.
+// Whether nothing but a comment follows on the line.
 fn is_below(text: &[u8]) -> bool
     ensures value { result ≡ lines.is_rest_empty text.now }
     ensures some { result ≡ false → 0 < length text.now }
@@ -136,7 +136,7 @@ fn item_below(
     depth: usize,
     column: usize,
     text: &[u8],
-) -> Result<(Node, &[u8]), Stop>
+) -> Result<(Node, &[u8]), Halt>
     requires { length text.now < 2 ^ 63 }
     ensures exact { Reads (λ r. (r.0, r.1.now)) result (spec.item_below (spec.block depth) column text.now) }
     ensures within { IfOk result (λ r. length r.1.now ≤ length text.now) }
@@ -148,10 +148,10 @@ fn item_below(
     }
 }
 
-/// An item: what follows the dash on its line, or the lines below.
+// An item: what follows the dash on its line, or the lines below.
 #[cycle(block)]
 #[tactic(auto, unfolding(crate::specs::Block::item))]
-fn item(alloc: Global, depth: usize, column: usize, text: &[u8]) -> Result<(Node, &[u8]), Stop>
+fn item(alloc: Global, depth: usize, column: usize, text: &[u8]) -> Result<(Node, &[u8]), Halt>
     requires room { 0 < length text.now → column + 1 + length text.now < 2 ^ 63 }
     requires short { length text.now < 2 ^ 63 }
     ensures exact { Reads (λ r. (r.0, r.1.now)) result (spec.item (spec.block depth) column text.now) }
@@ -181,7 +181,7 @@ fn next_item(column: usize, text: &[u8]) -> (bool, &[u8])
     }
 }
 
-/// One turn: the item whose dash begins here, and whether another one follows it.
+// One turn: the item whose dash begins here, and whether another one follows it.
 #[cycle(block)]
 #[tactic(auto, unfolding(crate::specs::Block::sequence_turn))]
 fn sequence_turn<'a>(
@@ -190,7 +190,7 @@ fn sequence_turn<'a>(
     column: usize,
     found: &mut Nodes,
     text: &'a [u8],
-) -> Result<(bool, &'a [u8]), Stop>
+) -> Result<(bool, &'a [u8]), Halt>
     requires { column + length text.now < 2 ^ 63 }
     ensures exact { Reads (λ r. (r.0, (found.new, r.1.now))) result (spec.sequence_turn (spec.block depth) column found.old text.now) }
     ensures within { IfOk result (λ r. length r.1.now ≤ length text.now) }
@@ -202,7 +202,7 @@ fn sequence_turn<'a>(
 }
 
 #[cycle(block)]
-fn sequence(alloc: Global, depth: usize, column: usize, text: &[u8]) -> Result<(Node, &[u8]), Stop>
+fn sequence(alloc: Global, depth: usize, column: usize, text: &[u8]) -> Result<(Node, &[u8]), Halt>
     requires { column + length text.now < 2 ^ 63 }
     ensures exact { Reads (λ r. (r.0, r.1.now)) result (spec.sequence (spec.block depth) column text.now) }
     ensures within { IfOk result (λ r. length r.1.now ≤ length text.now) }
@@ -224,7 +224,7 @@ fn value_below(
     depth: usize,
     column: usize,
     text: &[u8],
-) -> Result<(Node, &[u8]), Stop>
+) -> Result<(Node, &[u8]), Halt>
     requires { column + 1 + length text.now < 2 ^ 63 }
     ensures exact { Reads (λ r. (r.0, r.1.now)) result (spec.value_below (spec.block depth) column text.now) }
     ensures within { IfOk result (λ r. length r.1.now ≤ length text.now) }
@@ -237,10 +237,10 @@ fn value_below(
     }
 }
 
-/// A value, behind the `:`.
+// A value, behind the `:`.
 #[cycle(block)]
 #[tactic(auto, unfolding(crate::specs::Block::value))]
-fn value(alloc: Global, depth: usize, column: usize, text: &[u8]) -> Result<(Node, &[u8]), Stop>
+fn value(alloc: Global, depth: usize, column: usize, text: &[u8]) -> Result<(Node, &[u8]), Halt>
     requires { column + 1 + length text.now < 2 ^ 63 }
     ensures exact { Reads (λ r. (r.0, r.1.now)) result (spec.value depth (spec.block depth) column text.now) }
     ensures within { IfOk result (λ r. length r.1.now ≤ length text.now) }
@@ -273,7 +273,7 @@ fn with_value<'a>(
     text: &'a [u8],
     key: Text,
     rest: &'a [u8],
-) -> Result<(bool, &'a [u8]), Stop>
+) -> Result<(bool, &'a [u8]), Halt>
     requires { column + 1 + length rest.now < 2 ^ 63 }
     ensures exact { Reads (λ r. (r.0, (found.new, r.1.now))) result (spec.with_value depth (spec.block depth) column found.old text.now (key, rest.now)) }
     ensures within { IfOk result (λ r. length r.1.now ≤ length rest.now) }
@@ -284,7 +284,7 @@ fn with_value<'a>(
     Ok(next_pair(column, below))
 }
 
-/// One turn: the pair whose key begins here, and whether another one follows it.
+// One turn: the pair whose key begins here, and whether another one follows it.
 #[cycle(block)]
 #[tactic(auto, unfolding(crate::specs::Block::mapping_turn))]
 fn mapping_turn<'a>(
@@ -293,7 +293,7 @@ fn mapping_turn<'a>(
     column: usize,
     found: &mut Pairing,
     text: &'a [u8],
-) -> Result<(bool, &'a [u8]), Stop>
+) -> Result<(bool, &'a [u8]), Halt>
     requires { column + length text.now < 2 ^ 63 }
     ensures exact { Reads (λ r. (r.0, (found.new, r.1.now))) result (spec.mapping_turn depth (spec.block depth) column found.old text.now) }
     ensures shorter { IfOk result (λ r. length r.1.now < length text.now) }
@@ -303,7 +303,7 @@ fn mapping_turn<'a>(
 }
 
 #[cycle(block)]
-fn mapping(alloc: Global, depth: usize, column: usize, text: &[u8]) -> Result<(Node, &[u8]), Stop>
+fn mapping(alloc: Global, depth: usize, column: usize, text: &[u8]) -> Result<(Node, &[u8]), Halt>
     requires { column + length text.now < 2 ^ 63 }
     ensures exact { Reads (λ r. (r.0, r.1.now)) result (spec.mapping depth (spec.block depth) column text.now) }
     ensures within { IfOk result (λ r. length r.1.now ≤ length text.now) }
@@ -328,13 +328,13 @@ pub fn block(
     least: usize,
     column: usize,
     text: &[u8],
-) -> Result<(Node, &[u8]), Stop>
+) -> Result<(Node, &[u8]), Halt>
     requires { column + length text.now < 2 ^ 63 }
     ensures exact { Reads (λ r. (r.0, r.1.now)) result (spec.block depth least column text.now) }
     ensures within { IfOk result (λ r. length r.1.now ≤ length text.now) }
 {
     if depth == 0 {
-        return shallow(alloc, depth, least, text);
+        return block_at_limit(alloc, depth, least, text);
     }
     if begins_item(text) {
         sequence(alloc, depth - 1, column, text)
@@ -345,9 +345,14 @@ pub fn block(
     }
 }
 
-/// The node that begins here, where no collection may.
-fn shallow(alloc: Global, depth: usize, least: usize, text: &[u8]) -> Result<(Node, &[u8]), Stop>
-    ensures exact { Reads (λ r. (r.0, r.1.now)) result (spec.shallow depth least text.now) }
+// The node that begins here, where no collection may.
+fn block_at_limit(
+    alloc: Global,
+    depth: usize,
+    least: usize,
+    text: &[u8],
+) -> Result<(Node, &[u8]), Halt>
+    ensures exact { Reads (λ r. (r.0, r.1.now)) result (spec.block_at_limit depth least text.now) }
     ensures within { IfOk result (λ r. length r.1.now ≤ length text.now) }
 {
     if begins_item(text) {

@@ -5,17 +5,17 @@ ghost use Rattle.yaml_nodes.specs.Flow as spec;
 ghost use Rattle.yaml_nodes.specs.Part as parts;
 
 use crate::pairing::Pairing;
-use crate::part::{is_on_one_line, is_quote, opens, plain_node, quoted_node, too_deep};
+use crate::part::{begins_form, is_on_one_line, is_quote, plain_node, quoted_node, too_deep};
 use dvc_base::{Node, Nodes, Text};
 use std::alloc::Global;
 use yaml_scalars::{begins_plain, is_colon, plain_len, quoted_scalar};
 use yaml_text::{
-    Refusal, Stop, behind, byte, is_bad, is_marker, is_white, past_white, syntax, text_of,
+    Halt, Refusal, behind, byte, is_bad, is_marker, is_white, past_white, syntax, text_of,
 };
 
-/// The text from the next part on: white space, line breaks and comments may stand before it.
+// The text from the next part on: white space, line breaks and comments may stand before it.
 #[tactic(auto, unfolding(crate::specs::Flow::between_parts))]
-fn between_parts(mut text: &[u8]) -> Result<&[u8], Stop>
+fn between_parts(mut text: &[u8]) -> Result<&[u8], Halt>
     ensures exact { Reads (λ rest. rest.now) result (spec.between_parts text.entry.now) }
     ensures within { IfOk result (λ rest. length rest.now ≤ length text.entry.now) }
     ensures refused { IfErr result IsRefused }
@@ -44,7 +44,7 @@ fn between_parts(mut text: &[u8]) -> Result<&[u8], Stop>
 }
 
 #[tactic(auto, unfolding(crate::specs::Flow::flow_scalar))]
-fn flow_scalar(alloc: Global, text: &[u8]) -> Result<(Node, &[u8]), Stop>
+fn flow_scalar(alloc: Global, text: &[u8]) -> Result<(Node, &[u8]), Halt>
     ensures exact { Reads (λ r. (r.0, r.1.now)) result (spec.flow_scalar text.now) }
     ensures within { IfOk result (λ r. length r.1.now ≤ length text.now) }
 {
@@ -57,17 +57,17 @@ fn flow_scalar(alloc: Global, text: &[u8]) -> Result<(Node, &[u8]), Stop>
     }
 }
 
-/// Whether the item, behind which `rest` is left, is the key of a pair.
+// Whether the item, behind which `rest` is left, is the key of a pair.
 #[tactic(auto, unfolding(crate::specs::Flow::is_pair))]
-fn is_pair(text: &[u8], rest: &[u8], colon: &[u8]) -> bool
-    ensures { result ≡ spec.is_pair text.now rest.now colon.now }
+fn is_pair(text: &[u8], rest: &[u8], next: &[u8]) -> bool
+    ensures { result ≡ spec.is_pair text.now rest.now next.now }
 {
     if is_quote(text) {
-        byte(colon, 0) == b':'
-    } else if opens(text) {
+        byte(next, 0) == b':'
+    } else if begins_form(text) {
         false
     } else {
-        is_colon(true, colon) && is_on_one_line(text, rest)
+        is_colon(true, next) && is_on_one_line(text, rest)
     }
 }
 
@@ -77,7 +77,7 @@ fn behind_item<'a>(
     text: &[u8],
     rest: &[u8],
     next: &'a [u8],
-) -> Result<(bool, &'a [u8]), Stop>
+) -> Result<(bool, &'a [u8]), Halt>
     ensures exact { Reads (λ r. (r.0, (found.new, r.1.now))) result (spec.behind_item (found.old ++ node ∷ []) text.now rest.now next.now) }
     ensures within { IfOk result (λ r. length r.1.now ≤ length next.now) }
     ensures shorter { IfOk result (λ r. length r.1.now < length next.now) }
@@ -94,14 +94,14 @@ fn behind_item<'a>(
     }
 }
 
-/// The item that begins here, and what stands behind it.
+// The item that begins here, and what stands behind it.
 #[cycle(flow)]
 fn item_at<'a>(
     alloc: Global,
     depth: usize,
     found: &mut Nodes,
     text: &'a [u8],
-) -> Result<(bool, &'a [u8]), Stop>
+) -> Result<(bool, &'a [u8]), Halt>
     ensures exact { Reads (λ r. (r.0, (found.new, r.1.now))) result (spec.item_at (spec.flow_node depth) found.old text.now) }
     ensures shorter { IfOk result (λ r. length r.1.now < length text.now) }
 {
@@ -120,7 +120,7 @@ fn item_turn<'a>(
     depth: usize,
     found: &mut Nodes,
     text: &'a [u8],
-) -> Result<(bool, &'a [u8]), Stop>
+) -> Result<(bool, &'a [u8]), Halt>
     ensures exact { Reads (λ r. (r.0, (found.new, r.1.now))) result (spec.item_turn (spec.flow_node depth) found.old text.now) }
     ensures shorter { IfOk result (λ r. length r.1.now < length text.now) }
 {
@@ -128,9 +128,9 @@ fn item_turn<'a>(
     item_at(alloc, depth, found, text)
 }
 
-/// The items behind a `[`.
+// The items behind a `[`.
 #[cycle(flow)]
-fn items(alloc: Global, depth: usize, text: &[u8]) -> Result<(Node, &[u8]), Stop>
+fn items(alloc: Global, depth: usize, text: &[u8]) -> Result<(Node, &[u8]), Halt>
     ensures exact { Reads (λ r. (r.0, r.1.now)) result (spec.items (spec.flow_node depth) text.now) }
     ensures within { IfOk result (λ r. length r.1.now ≤ length text.now) }
 {
@@ -146,7 +146,7 @@ fn items(alloc: Global, depth: usize, text: &[u8]) -> Result<(Node, &[u8]), Stop
 }
 
 #[tactic(auto, unfolding(crate::specs::Flow::flow_key))]
-fn flow_key(alloc: Global, text: &[u8]) -> Result<(Text, &[u8]), Stop>
+fn flow_key(alloc: Global, text: &[u8]) -> Result<(Text, &[u8]), Halt>
     ensures exact { Reads (λ r. (r.0, r.1.now)) result (spec.flow_key text.now) }
     ensures within { IfOk result (λ r. length r.1.now ≤ length text.now) }
 {
@@ -159,8 +159,8 @@ fn flow_key(alloc: Global, text: &[u8]) -> Result<(Text, &[u8]), Stop>
     }
 }
 
-/// The plain key that begins here, which ends at no bad character.
-fn plain_key(alloc: Global, text: &[u8]) -> Result<(Text, &[u8]), Stop>
+// The plain key that begins here, which ends at no bad character.
+fn plain_key(alloc: Global, text: &[u8]) -> Result<(Text, &[u8]), Halt>
     ensures exact { Reads (λ r. (r.0, r.1.now)) result (spec.plain_key text.now) }
     ensures within { IfOk result (λ r. length r.1.now ≤ length text.now) }
 {
@@ -189,14 +189,14 @@ fn is_merge(text: &[u8], key: &Text) -> bool
 
 /// The key, where it may stand behind the keys of these pairs.
 #[tactic(auto, unfolding(crate::specs::Flow::new_key))]
-pub fn new_key(found: &Pairing, text: &[u8], key: Text) -> Result<Text, Stop>
+pub fn new_key(found: &Pairing, text: &[u8], key: Text) -> Result<Text, Halt>
     ensures exact { Reads (λ key. key) result (spec.new_key found.now text.now key) }
     ensures refused { IfErr result IsRefused }
 {
     if is_merge(text, &key) {
         Err(syntax(text))
     } else if found.has(&key) {
-        Err(Stop::Refused(Refusal::Duplicate(text.len())))
+        Err(Halt::Refused(Refusal::Duplicate(text.len())))
     } else {
         Ok(key)
     }
@@ -213,7 +213,7 @@ fn is_key_colon(text: &[u8], next: &[u8]) -> bool
 }
 
 #[cycle(flow)]
-fn value_at(alloc: Global, depth: usize, text: &[u8]) -> Result<(Node, &[u8]), Stop>
+fn value_at(alloc: Global, depth: usize, text: &[u8]) -> Result<(Node, &[u8]), Halt>
     ensures exact { Reads (λ r. (r.0, r.1.now)) result (spec.value_at (spec.flow_node depth) text.now) }
     ensures within { IfOk result (λ r. length r.1.now ≤ length text.now) }
 {
@@ -224,7 +224,7 @@ fn value_at(alloc: Global, depth: usize, text: &[u8]) -> Result<(Node, &[u8]), S
     }
 }
 
-/// Behind a key: its value, and what is left from the next part on.
+// Behind a key: its value, and what is left from the next part on.
 #[cycle(flow)]
 #[tactic(auto, unfolding(crate::specs::Flow::flow_value))]
 fn flow_value<'a>(
@@ -232,7 +232,7 @@ fn flow_value<'a>(
     depth: usize,
     text: &[u8],
     next: &'a [u8],
-) -> Result<(Node, &'a [u8]), Stop>
+) -> Result<(Node, &'a [u8]), Halt>
     ensures exact { Reads (λ r. (r.0, r.1.now)) result (spec.flow_value (spec.flow_node depth) text.now next.now) }
     ensures within { IfOk result (λ r. length r.1.now ≤ length next.now) }
 {
@@ -250,7 +250,7 @@ fn behind_pair<'a>(
     key: Text,
     value: Node,
     next: &'a [u8],
-) -> Result<(bool, &'a [u8]), Stop>
+) -> Result<(bool, &'a [u8]), Halt>
     ensures exact { Reads (λ r. (r.0, (found.new, r.1.now))) result (spec.behind_pair (parts.with_pair found.old key value) next.now) }
     ensures shorter { IfOk result (λ r. length r.1.now < length next.now) }
 {
@@ -272,7 +272,7 @@ fn with_key<'a>(
     text: &'a [u8],
     key: Text,
     rest: &'a [u8],
-) -> Result<(bool, &'a [u8]), Stop>
+) -> Result<(bool, &'a [u8]), Halt>
     ensures exact { Reads (λ r. (r.0, (found.new, r.1.now))) result (spec.with_key (spec.flow_node depth) found.old text.now (key, rest.now)) }
     ensures shorter { IfOk result (λ r. length r.1.now < length rest.now) }
 {
@@ -282,14 +282,14 @@ fn with_key<'a>(
     behind_pair(alloc, found, name, value, after)
 }
 
-/// The pair that begins here, and what stands behind it.
+// The pair that begins here, and what stands behind it.
 #[cycle(flow)]
 fn pair_at<'a>(
     alloc: Global,
     depth: usize,
     found: &mut Pairing,
     text: &'a [u8],
-) -> Result<(bool, &'a [u8]), Stop>
+) -> Result<(bool, &'a [u8]), Halt>
     ensures exact { Reads (λ r. (r.0, (found.new, r.1.now))) result (spec.pair_at (spec.flow_node depth) found.old text.now) }
     ensures shorter { IfOk result (λ r. length r.1.now < length text.now) }
 {
@@ -307,7 +307,7 @@ fn pair_turn<'a>(
     depth: usize,
     found: &mut Pairing,
     text: &'a [u8],
-) -> Result<(bool, &'a [u8]), Stop>
+) -> Result<(bool, &'a [u8]), Halt>
     ensures exact { Reads (λ r. (r.0, (found.new, r.1.now))) result (spec.pair_turn (spec.flow_node depth) found.old text.now) }
     ensures shorter { IfOk result (λ r. length r.1.now < length text.now) }
 {
@@ -315,9 +315,9 @@ fn pair_turn<'a>(
     pair_at(alloc, depth, found, text)
 }
 
-/// The pairs behind a `{`.
+// The pairs behind a `{`.
 #[cycle(flow)]
-fn pairs(alloc: Global, depth: usize, text: &[u8]) -> Result<(Node, &[u8]), Stop>
+fn pairs(alloc: Global, depth: usize, text: &[u8]) -> Result<(Node, &[u8]), Halt>
     ensures exact { Reads (λ r. (r.0, r.1.now)) result (spec.pairs (spec.flow_node depth) text.now) }
     ensures within { IfOk result (λ r. length r.1.now ≤ length text.now) }
 {
@@ -334,7 +334,7 @@ fn pairs(alloc: Global, depth: usize, text: &[u8]) -> Result<(Node, &[u8]), Stop
 
 #[cycle(flow)]
 #[tactic(auto, unfolding(crate::specs::Flow::flow_form))]
-fn flow_form(alloc: Global, depth: usize, text: &[u8]) -> Result<(Node, &[u8]), Stop>
+fn flow_form(alloc: Global, depth: usize, text: &[u8]) -> Result<(Node, &[u8]), Halt>
     ensures exact { Reads (λ r. (r.0, r.1.now)) result (spec.flow_form (spec.flow_node depth) text.now) }
     ensures within { IfOk result (λ r. length r.1.now ≤ length text.now) }
 {
@@ -348,11 +348,11 @@ fn flow_form(alloc: Global, depth: usize, text: &[u8]) -> Result<(Node, &[u8]), 
 /// The flow form or scalar that begins here, with at most `depth` collections in one another.
 #[cycle(flow)]
 #[tactic(auto, using(crate::proofs::FlowLemmas::flow_shallow, crate::proofs::FlowLemmas::flow_none, crate::proofs::FlowLemmas::flow_deep))]
-pub fn flow_node(alloc: Global, depth: usize, text: &[u8]) -> Result<(Node, &[u8]), Stop>
+pub fn flow_node(alloc: Global, depth: usize, text: &[u8]) -> Result<(Node, &[u8]), Halt>
     ensures exact { Reads (λ r. (r.0, r.1.now)) result (spec.flow_node depth text.now) }
     ensures within { IfOk result (λ r. length r.1.now ≤ length text.now) }
 {
-    if !opens(text) {
+    if !begins_form(text) {
         return flow_scalar(alloc, text);
     }
     if depth == 0 {

@@ -56,10 +56,10 @@ impl Pairing {
         let copy = String::from_str(alloc, key.as_str())?;
         match add(&mut self.keys, &mut self.pairs, copy, key, value) {
             Ok(()) => Ok(()),
-            Err(stop) => {
+            Err(none) => {
                 self.keys = BTreeSet::new(alloc);
                 self.pairs = PairList::new(alloc);
-                Err(stop)
+                Err(none)
             }
         }
     }
@@ -72,7 +72,7 @@ impl Pairing {
     }
 }
 
-/// Adds a pair, and a copy of its key to the keys.
+// Adds a pair, and a copy of its key to the keys.
 fn add(
     keys: &mut BTreeSet<String>,
     pairs: &mut PairList,

@@ -5,12 +5,12 @@ use Rattle.std.specs.Char.{encode_utf8, is_ascii_hexdigit}
 use Rattle.std.specs.List.{list_all}
 use Rattle.std.proofs.lemmas.Bool.Decides.{nat_tests}
 use Rattle.yaml_text.specs.Outcome.{Text}
-use Rattle.yaml_scalars.specs.Quoted.{digit_value, hex_digit, beside, hex_2, hex_4, character, escape, is_literal}
-use Rattle.yaml_print.specs.Written.{needs_escape, hex_digit as digit_of, hex_2 as digits_of, by_number, in_double, in_single, between}
+use Rattle.yaml_scalars.specs.Quoted.{digit_value, hex_digit, with_low_digits, hex_2, hex_4, character, escape, is_literal}
+use Rattle.yaml_print.specs.ScalarText.{needs_escape, hex_digit as digit_of, hex_2 as digits_of, by_number, in_double, in_single, between}
 use Rattle.yaml_print.proofs.BoolLemmas.{either, true_not_false, same, both, neither_left, neither_right, either_false}
 use Rattle.yaml_print.proofs.QuoteLemmas.{append_nil}
 use Rattle.yaml_print.proofs.Shown.{is_graph, graphs_fine}
-use Rattle.yaml_print.proofs.QuotedRead.{Read, as_bytes, by_escape, left_meant, turn_left}
+use Rattle.yaml_print.proofs.QuotedRead.{Read, as_bytes, by_escape, left_at_meaning, turn_left}
 
 -- ---- bytes that stand for themselves
 
@@ -86,7 +86,7 @@ digit_read d t h =
 hex_read : (a b : ℕ) (t : Text) → a < 16 → b < 16 → hex_2 (digit_of a ∷ digit_of b ∷ t) ≡ Some (16 * a + b, t)
 unfolding hex_2
 hex_read a b t h k =
-    ap (option_and_then (beside 16 hex_digit)) (digit_read a (digit_of b ∷ t) h)
+    ap (option_and_then (with_low_digits 16 hex_digit)) (digit_read a (digit_of b ∷ t) h)
     ∙ ap (option_and_then (λ low. Some (16 * a + low.0, low.1))) (digit_read b t k)
 
 byte_read : (c : ℕ) (t : Text) → c < 128 → escape (120 ∷ (digits_of c ++ t)) ≡ Some (c, t)
@@ -245,7 +245,7 @@ unfolding in_single encode_utf8
 at_39 over found p t = record {
   found_more = (found ++ p) ++ 39 ∷ [];
   passed = [];
-  reads = left_meant 39 over found p (39 ∷ t) 39 refl ∙ sym (turn_left 39 over ((found ++ p) ++ 39 ∷ []) t);
+  reads = left_at_meaning 39 over found p (39 ∷ t) 39 refl ∙ sym (turn_left 39 over ((found ++ p) ++ 39 ∷ []) t);
   grows = append_nil ((found ++ p) ++ 39 ∷ []);
   fine = λ real. graphs_fine (39 ∷ 39 ∷ []) refl;
 }

@@ -11,7 +11,7 @@ use Rattle.yaml_text.specs.Line.{is_rest_empty, spaces, past_spaces, rest_of_lin
 use Rattle.yaml_text.specs.Source.{past_mark, with_line_feeds, source, is_all_blank, body_from, body_len}
 use Rattle.yaml_text.proofs.SourceLemmas.{source_whole}
 use Rattle.yaml_nodes.specs.Block.{block}
-use Rattle.yaml_nodes.specs.Document.{max_depth, alone, root, past_marker, document, tail, with_body, read, parse}
+use Rattle.yaml_nodes.specs.Document.{max_depth, sole_node, root, past_marker, document, tail, with_body, read, parse}
 use Rattle.yaml_print.specs.Print.{node_text, print_text}
 use Rattle.yaml_print.specs.Sound.{IsSound, AreTexts, IsPrintable}
 use Rattle.yaml_print.proofs.BoolLemmas.{both_left, both_right, not_true}
@@ -62,10 +62,10 @@ some_text (b ∷ t) h = let e : 0 < length (b ∷ t) = omega arith in grind (ari
 
 root_read : (t : Text) (v : Node) → IsHead t → block max_depth 0 0 t ≡ Ok (v, []) → root t ≡ Ok v
 root_read t v h is =
-    ap (λ c. cond c (Ok nd.Null) (block max_depth 0 (spaces t) (past_spaces t) >>= alone)) (some_text t h)
-    ∙ ap (λ k. block max_depth 0 k (past_spaces t) >>= alone) (no_spaces t h)
-    ∙ ap (λ u. block max_depth 0 0 u >>= alone) (past_spaces_at 0 t h)
-    ∙ ap (λ o. o >>= alone) is
+    ap (λ c. cond c (Ok nd.Null) (block max_depth 0 (spaces t) (past_spaces t) >>= sole_node)) (some_text t h)
+    ∙ ap (λ k. block max_depth 0 k (past_spaces t) >>= sole_node) (no_spaces t h)
+    ∙ ap (λ u. block max_depth 0 0 u >>= sole_node) (past_spaces_at 0 t h)
+    ∙ ap (λ o. o >>= sole_node) is
 
 document_read : (t : Text) (v : Node) → IsHead t → block max_depth 0 0 t ≡ Ok (v, []) → document t ≡ Ok v
 unfolding document

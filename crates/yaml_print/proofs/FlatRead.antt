@@ -9,7 +9,7 @@ use Rattle.yaml_scalars.specs.Kind.{scalar}
 use Rattle.yaml_nodes.specs.Flow.{between_parts, item_turn, items, pair_turn, pairs, flow_form, flow_node}
 use Rattle.yaml_nodes.specs.Block.{line_end, inline, begins_key}
 use Rattle.yaml_nodes.proofs.StepLemmas.{steps_step}
-use Rattle.yaml_print.specs.Written.{Layer, written}
+use Rattle.yaml_print.specs.ScalarText.{Layer, scalar_text}
 use Rattle.yaml_print.specs.Print.{inline_text}
 use Rattle.yaml_print.specs.Sound.{IsScalar, IsFlat, IsProper, IsSpelt}
 use Rattle.yaml_print.proofs.Shown.{graphs_fine}
@@ -36,7 +36,7 @@ scalar_value (Node-F.Whole n w) s p t =
 scalar_value (Node-F.Decimal w) s p t =
     let l = decimal_line w p in
     subst (λ v. Value 0 w v) (sym (nd.rolls-Decimal w)) (plain_value w (nd.Decimal w) (one_line_fine w t l) l (λ k. kind_same 0 k w (nd.Decimal w) p))
-scalar_value (Node-F.Text w) s p t = subst (λ v. Value 0 (written w) v) (sym (nd.rolls-Text w)) (written_value w t)
+scalar_value (Node-F.Text w) s p t = subst (λ v. Value 0 (scalar_text w) v) (sym (nd.rolls-Text w)) (written_value w t)
 scalar_value (Node-F.Items xs) s p t = absurd s
 scalar_value (Node-F.Pairs ps) s p t = absurd s
 
@@ -101,4 +101,4 @@ flat_value Node-F.Null f p t = deeper_value (inline_text Node-F.Null) (roll-Node
 flat_value (Node-F.Bool b) f p t = deeper_value (inline_text (Node-F.Bool b)) (roll-Node (Node-F.Bool b)) (scalar_value (Node-F.Bool b) tt p t)
 flat_value (Node-F.Whole n w) f p t = deeper_value w (roll-Node (Node-F.Whole n w)) (scalar_value (Node-F.Whole n w) tt p t)
 flat_value (Node-F.Decimal w) f p t = deeper_value w (roll-Node (Node-F.Decimal w)) (scalar_value (Node-F.Decimal w) tt p t)
-flat_value (Node-F.Text w) f p t = deeper_value (written w) (roll-Node (Node-F.Text w)) (scalar_value (Node-F.Text w) tt p t)
+flat_value (Node-F.Text w) f p t = deeper_value (scalar_text w) (roll-Node (Node-F.Text w)) (scalar_value (Node-F.Text w) tt p t)

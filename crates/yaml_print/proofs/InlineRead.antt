@@ -6,17 +6,17 @@ use Rattle.dvc_base.specs.declared.node.Node.{Node}
 use Rattle.yaml_text.specs.Outcome.{Text, ◌>>=◌, syntax}
 use Rattle.yaml_text.specs.Line.{past_white, past_spaces, next_line, is_rest_empty}
 use Rattle.yaml_scalars.specs.Turns.{all_turns}
-use Rattle.yaml_scalars.specs.Plain.{plain_len, begins_plain, parts, is_colon, with_part, next_part, plain_turn, plain}
+use Rattle.yaml_scalars.specs.Plain.{plain_len, begins_plain, may_follow_colon, is_colon, with_part, next_part, plain_turn, plain}
 use Rattle.yaml_scalars.specs.Quoted.{quoted}
 use Rattle.yaml_scalars.specs.Kind.{scalar}
 use Rattle.yaml_scalars.proofs.TurnLemmas.{turns_step}
 use Rattle.yaml_scalars.proofs.PlainLemmas.{plain_shrinks}
-use Rattle.yaml_nodes.specs.Part.{first, is_quote, opens, is_on_one_line, plain_node, quoted_node}
+use Rattle.yaml_nodes.specs.Part.{first, is_quote, begins_form, is_on_one_line, plain_node, quoted_node}
 use Rattle.yaml_nodes.specs.Flow.{flow_node}
 use Rattle.yaml_nodes.specs.Block.{line_end, lines_node, inline, begins_item, behind_plain, begins_key, behind_key, block_key}
-use Rattle.yaml_print.specs.Written.{is_marked, is_one_line}
+use Rattle.yaml_print.specs.ScalarText.{begins_as_marker, is_one_line}
 use Rattle.yaml_print.proofs.BoolLemmas.{true_not_false, same, neither_left, neither_right, either_false, right_false}
-use Rattle.yaml_print.proofs.PlainRead.{Stops, feed_stops, colon_stops, whole_line, begins_more, not_first, plain_no_item, plain_no_quote, plain_not_open}
+use Rattle.yaml_print.proofs.PlainRead.{EndsPlain, feed_ends_plain, colon_ends_plain, whole_line, begins_more, not_first, plain_no_item, plain_no_quote, plain_not_open}
 use Rattle.yaml_print.proofs.LineRead.{IsHead, Below, stops_at}
 
 -- ---- no mark of the text or between documents
@@ -63,7 +63,7 @@ no_triple i j k (a ∷ []) u h e f g = second_by (eqb a i) (eqb (slice_index u 0
 no_triple i j k (a ∷ b ∷ []) u h e f g = right_false (eqb a i && eqb b j) (eqb (slice_index u 0) k) g
 no_triple i j k (a ∷ b ∷ c ∷ w) u h e f g = turn_by (eqb a i) (eqb b j) (eqb c k) h
 
-pub unmarked : (w u : Text) → is_marked w ≡ false → bytes_eq (take 3 w) order_mark ≡ false → Ends u → IsUnmarked (w ++ u)
+pub unmarked : (w u : Text) → begins_as_marker w ≡ false → bytes_eq (take 3 w) order_mark ≡ false → Ends u → IsUnmarked (w ++ u)
 unmarked w u h k e = record {
   dashes = no_triple 45 45 45 w u (neither_left (bytes_eq (take 3 w) (codes "---")) (bytes_eq (take 3 w) (codes "...")) h) e.0 e.0 e.0;
   dots = no_triple 46 46 46 w u (neither_right (bytes_eq (take 3 w) (codes "---")) (bytes_eq (take 3 w) (codes "...")) h) e.1 e.1 e.1;
@@ -85,7 +85,7 @@ parts_by false b c h = absurd (true_not_false (sym h))
 
 pub one_line : (w : Text) → is_one_line w ≡ true → bytes_eq (take 3 w) order_mark ≡ false → OneLine w
 one_line w h k =
-    let p = parts_by (begins_plain false w) (eqb (plain_len false false w) (length w)) (is_marked w) h in
+    let p = parts_by (begins_plain false w) (eqb (plain_len false false w) (length w)) (begins_as_marker w) h in
     record { begins = p.0; whole = same (plain_len false false w) (length w) p.1; marks = λ u e. unmarked w u p.2 k e }
 
 plain_head : (w : Text) → begins_plain false w ≡ true → triple 45 45 45 w ≡ false → IsHead w
@@ -108,7 +108,7 @@ no_quote : (w : Text) → begins_plain false w ≡ true → is_quote w ≡ false
 no_quote [] h = absurd (true_not_false (sym h))
 no_quote (b ∷ t) h = plain_no_quote b t h
 
-no_opening : (w : Text) → begins_plain false w ≡ true → opens w ≡ false
+no_opening : (w : Text) → begins_plain false w ≡ true → begins_form w ≡ false
 no_opening [] h = absurd (true_not_false (sym h))
 no_opening (b ∷ t) h = plain_not_open b t h
 
@@ -119,14 +119,14 @@ no_lines (b ∷ t) h = either_false (eqb b 124) (eqb b 62) (not_first 124 b t re
 pub one_line_no_item : (w u : Text) → OneLine w → begins_item (w ++ u) ≡ false
 one_line_no_item w u l = no_item (w ++ u) (begins_more w u l.begins)
 
-len_same : (w u : Text) → OneLine w → Stops u → plain_len false false (w ++ u) ≡ length w
-len_same w u l stops = whole_line false w u stops l.whole
+len_same : (w u : Text) → OneLine w → EndsPlain u → plain_len false false (w ++ u) ≡ length w
+len_same w u l ends = whole_line false w u ends l.whole
 
-taken : (w u : Text) → OneLine w → Stops u → take (plain_len false false (w ++ u)) (w ++ u) ≡ w
-taken w u l stops = ap (λ n. take n (w ++ u)) (len_same w u l stops) ∙ take_at w u (length w) refl
+taken : (w u : Text) → OneLine w → EndsPlain u → take (plain_len false false (w ++ u)) (w ++ u) ≡ w
+taken w u l ends = ap (λ n. take n (w ++ u)) (len_same w u l ends) ∙ take_at w u (length w) refl
 
-dropped : (w u : Text) → OneLine w → Stops u → drop (plain_len false false (w ++ u)) (w ++ u) ≡ u
-dropped w u l stops = ap (λ n. drop n (w ++ u)) (len_same w u l stops) ∙ drop_at w u (length w) refl
+dropped : (w u : Text) → OneLine w → EndsPlain u → drop (plain_len false false (w ++ u)) (w ++ u) ≡ u
+dropped w u l ends = ap (λ n. drop n (w ++ u)) (len_same w u l ends) ∙ drop_at w u (length w) refl
 
 -- the scalar ends with its line
 plain_last : (least : ℕ) (w u : Text) → Below least u → plain_turn false least w (10 ∷ u) ≡ Ok (true, (w, 10 ∷ u))
@@ -139,8 +139,8 @@ plain_whole : (least : ℕ) (w u : Text) → OneLine w → Below least u → pla
 unfolding plain
 plain_whole least w u l b =
     let turn = plain_turn false least in
-    ap (λ t. all_turns turn t (drop (plain_len false false (w ++ 10 ∷ u)) (w ++ 10 ∷ u))) (taken w (10 ∷ u) l (feed_stops u))
-    ∙ ap (all_turns turn w) (dropped w (10 ∷ u) l (feed_stops u))
+    ap (λ t. all_turns turn t (drop (plain_len false false (w ++ 10 ∷ u)) (w ++ 10 ∷ u))) (taken w (10 ∷ u) l (feed_ends_plain u))
+    ∙ ap (all_turns turn w) (dropped w (10 ∷ u) l (feed_ends_plain u))
     ∙ sym (turns_step turn (plain_shrinks false least) w (10 ∷ u))
     ∙ ap (λ o. o >>= λ r. cond r.0 (Ok r.1) (all_turns turn r.1.0 r.1.1)) (plain_last least w u b)
 
@@ -174,20 +174,20 @@ plain_no_key w u l =
     let t = w ++ 10 ∷ u in
     let begins = begins_more w (10 ∷ u) l.begins in
     ap (λ x. cond x (quoted (first t) true (drop 1 t) >>= λ r. Ok (is_colon false (past_spaces r.1) && is_on_one_line t r.1)) (Ok (begins_plain false t && is_colon false (behind_plain t)))) (no_quote t begins)
-    ∙ ap (λ s. Ok (begins_plain false t && is_colon false (past_white s))) (dropped w (10 ∷ u) l (feed_stops u))
+    ∙ ap (λ s. Ok (begins_plain false t && is_colon false (past_white s))) (dropped w (10 ∷ u) l (feed_ends_plain u))
     ∙ ap (λ x. Ok (x && false)) begins
 
-pub plain_key : (w u : Text) → OneLine w → parts false u ≡ true → begins_key (w ++ 58 ∷ u) ≡ Ok true
+pub plain_key : (w u : Text) → OneLine w → may_follow_colon false u ≡ true → begins_key (w ++ 58 ∷ u) ≡ Ok true
 unfolding begins_key
 plain_key w u l p =
     let t = w ++ 58 ∷ u in
     let begins = begins_more w (58 ∷ u) l.begins in
     ap (λ x. cond x (quoted (first t) true (drop 1 t) >>= λ r. Ok (is_colon false (past_spaces r.1) && is_on_one_line t r.1)) (Ok (begins_plain false t && is_colon false (behind_plain t)))) (no_quote t begins)
-    ∙ ap (λ s. Ok (begins_plain false t && is_colon false (past_white s))) (dropped w (58 ∷ u) l (colon_stops u p))
-    ∙ ap (λ x. Ok (x && parts false u)) begins
+    ∙ ap (λ s. Ok (begins_plain false t && is_colon false (past_white s))) (dropped w (58 ∷ u) l (colon_ends_plain u p))
+    ∙ ap (λ x. Ok (x && may_follow_colon false u)) begins
     ∙ ap Ok p
 
-pub plain_key_read : (w u : Text) → OneLine w → parts false u ≡ true → block_key (w ++ 58 ∷ u) ≡ Ok (w, u)
+pub plain_key_read : (w u : Text) → OneLine w → may_follow_colon false u ≡ true → block_key (w ++ 58 ∷ u) ≡ Ok (w, u)
 unfolding block_key
 plain_key_read w u l p =
     let t = w ++ 58 ∷ u in
@@ -196,7 +196,7 @@ plain_key_read w u l p =
     let q = quoted (first t) false (drop 1 t) >>= λ r. behind_key (is_colon false (past_spaces r.1)) r.0 (past_spaces r.1) in
     ap (λ x. cond x q (cond (begins_plain false t) k (syntax t))) (no_quote t begins)
     ∙ ap (λ x. cond x k (syntax t)) begins
-    ∙ ap (λ n. behind_key (is_colon false (past_white (drop n t))) (take n t) (past_white (drop n t))) (len_same w (58 ∷ u) l (colon_stops u p))
+    ∙ ap (λ n. behind_key (is_colon false (past_white (drop n t))) (take n t) (past_white (drop n t))) (len_same w (58 ∷ u) l (colon_ends_plain u p))
     ∙ ap (λ s. behind_key (is_colon false (past_white s)) (take (length w) t) (past_white s)) (drop_at w (58 ∷ u) (length w) refl)
-    ∙ ap (λ s. behind_key (parts false u) s (58 ∷ u)) (take_at w (58 ∷ u) (length w) refl)
+    ∙ ap (λ s. behind_key (may_follow_colon false u) s (58 ∷ u)) (take_at w (58 ∷ u) (length w) refl)
     ∙ ap (λ x. behind_key x w (58 ∷ u)) p

@@ -13,7 +13,7 @@ use Rattle.yaml_scalars.specs.Turns.{Turn}
 use Rattle.yaml_nodes.specs.Part.{steps, first}
 use Rattle.yaml_nodes.specs.Block.{inline, begins_item, item_below, item, next_item, with_found, sequence_turn, block}
 use Rattle.yaml_nodes.proofs.StepLemmas.{steps_step}
-use Rattle.yaml_print.specs.Written.{Layer}
+use Rattle.yaml_print.specs.ScalarText.{Layer}
 use Rattle.yaml_print.specs.Print.{rows, item_text, node_text}
 use Rattle.yaml_print.specs.Sound.{Each, IsFlat, IsSound, AreTexts}
 use Rattle.yaml_print.proofs.BoolLemmas.{eq_self, neither_right, either_false}
@@ -35,12 +35,12 @@ more_turns turn s r t u is less =
 
 -- ---- what stands behind a node
 
-abbrev pub Stop : Layer → ℕ → ℕ → Text → Type 0
-Stop (Node-F.Items (x ∷ xs)) least column t = Follows column t
-Stop (Node-F.Pairs (p ∷ ps)) least column t = Below column t
-Stop _ least column t = Below least t
+abbrev pub EndsNode : Layer → ℕ → ℕ → Text → Type 0
+EndsNode (Node-F.Items (x ∷ xs)) least column t = Follows column t
+EndsNode (Node-F.Pairs (p ∷ ps)) least column t = Below column t
+EndsNode _ least column t = Below least t
 
-pub below_stops : (l : Layer) (k least column : ℕ) (t : Text) → k ≤ least → k ≤ column → Below k t → Stop l least column t
+pub below_stops : (l : Layer) (k least column : ℕ) (t : Text) → k ≤ least → k ≤ column → Below k t → EndsNode l least column t
 below_stops (Node-F.Items (x ∷ xs)) k least column t h m b = follows_below column t (below_more k column t m b)
 below_stops (Node-F.Items []) k least column t h m b = below_more k least t h b
 below_stops (Node-F.Pairs (p ∷ ps)) k least column t h m b = below_more k column t m b
@@ -52,7 +52,7 @@ below_stops (Node-F.Decimal w) k least column t h m b = below_more k least t h b
 below_stops (Node-F.Text w) k least column t h m b = below_more k least t h b
 
 pub record Reads (d : ℕ) : Type 0 where
-  pub reads : (v : Node) (least column : ℕ) (t : Text) → IsSound d v → AreTexts d v → Stop (out-Node v) least column t → block d least column (node_text d column v ++ t) ≡ Ok (v, t)
+  pub reads : (v : Node) (least column : ℕ) (t : Text) → IsSound d v → AreTexts d v → EndsNode (out-Node v) least column t → block d least column (node_text d column v ++ t) ≡ Ok (v, t)
   pub inlines : (v : Node) (least column : ℕ) (t : Text) → IsSound d v → AreTexts d v → IsFlat (out-Node v) → Below least t → inline d least (node_text d column v ++ t) ≡ Ok (v, t)
   pub heads : (v : Node) (column : ℕ) (t : Text) → IsSound d v → AreTexts d v → IsHead (node_text d column v ++ t)
   pub marks : (v : Node) (column : ℕ) (t : Text) → IsSound d v → AreTexts d v → IsUnmarked (node_text d column v ++ t)

@@ -7,8 +7,8 @@ use Rattle.std.proofs.Common.{◌≡◌, ℕ, zero, suc, ◌+◌, ◌<◌, ◌�
 use Rattle.std.specs.Prelude.{slice_index, replicate}
 use Rattle.std.proofs.lemmas.Bool.Decides.{nat_tests}
 use Rattle.yaml_text.specs.Outcome.{Text, ◌>>=◌, syntax}
-use Rattle.yaml_text.specs.Line.{is_white, spaces, past_spaces, past_white, first_from, is_marker, checked, next_line, blank_from, blank_lines}
-use Rattle.yaml_scalars.specs.Plain.{is_over, part_of_block, part_in_block, goes_on}
+use Rattle.yaml_text.specs.Line.{is_white, spaces, past_spaces, past_white, first_from, is_marker, check_line, next_line, blank_from, blank_lines}
+use Rattle.yaml_scalars.specs.Plain.{is_end_or_comment, part_of_block, part_in_block, goes_on}
 use Rattle.yaml_nodes.specs.Block.{begins_item, next_item, next_pair}
 use Rattle.yaml_print.proofs.BoolLemmas.{either, true_not_false, neither_right, either_false}
 
@@ -62,15 +62,15 @@ no_marker zero [] h = absurd h
 no_marker zero (b ∷ t) h = h.3
 no_marker (suc n) s h = refl
 
-checked_at : (n : ℕ) (s : Text) → IsHead s → checked (at_column n s) ≡ Ok (at_column n s)
-checked_at n s h =
+check_line_at : (n : ℕ) (s : Text) → IsHead s → check_line (at_column n s) ≡ Ok (at_column n s)
+check_line_at n s h =
     let t = at_column n s in
     ap (λ v. cond v (syntax (past_spaces t)) (Ok t))
     (either_false (eqb (slice_index (past_spaces t) 0) 9) (is_marker t) (ap (λ w. eqb (slice_index w 0) 9) (past_spaces_at n s h) ∙ no_tab s h) (no_marker n s h))
 
 pub next_at : (n : ℕ) (s : Text) → IsHead s → next_line (at_column n s) ≡ Ok (at_column n s)
 unfolding next_line
-next_at n s h = ap (λ o. o >>= checked) (first_at n (at_column n s) s h) ∙ checked_at n s h
+next_at n s h = ap (λ o. o >>= check_line) (first_at n (at_column n s) s h) ∙ check_line_at n s h
 
 head_blank : (start s : Text) → IsHead s → blank_from 0 start s ≡ (0, start)
 head_blank start [] h = absurd h
@@ -151,14 +151,14 @@ below_no_pair n t b = less_no_pair n t b.less
 
 -- ---- a scalar doesn't go on
 
-goes_by : (v : Bool) (least : ℕ) (start : Text) → (start ≡ []) ⊎ (spaces start < least) → is_over (past_white start) ≡ v → goes_on false least start ≡ Ok None
+goes_by : (v : Bool) (least : ℕ) (start : Text) → (start ≡ []) ⊎ (spaces start < least) → is_end_or_comment (past_white start) ≡ v → goes_on false least start ≡ Ok None
 unfolding goes_on
 goes_by true least start h is = ap (λ v. cond v (Ok None) (part_in_block least start)) is
 goes_by false least start (inl e) is = subst (λ w. goes_on false least w ≡ Ok None) (sym e) refl
 goes_by false least start (inr h) is =
     let less : ltb (spaces start) least ≡ true = grind (arith, nat_tests) in
     ap (λ v. cond v (Ok None) (part_in_block least start)) is
-    ∙ ap (λ v. cond v (Ok None) (checked start >>= λ s. part_of_block (past_spaces s))) less
+    ∙ ap (λ v. cond v (Ok None) (check_line start >>= λ s. part_of_block (past_spaces s))) less
 
 pub stops_at : (least : ℕ) (t : Text) → Below least t → goes_on false least t ≡ Ok None
-stops_at least t b = goes_by (is_over (past_white t)) least t b.less refl
+stops_at least t b = goes_by (is_end_or_comment (past_white t)) least t b.less refl

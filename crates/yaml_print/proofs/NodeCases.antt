@@ -10,8 +10,8 @@ use Rattle.yaml_text.specs.declared.refusal.Refusal.{Refusal}
 use Rattle.yaml_text.specs.declared.refusal.Refusal.TheVariants.{TooWide}
 use Rattle.yaml_text.specs.Outcome.{Text, Outcome}
 use Rattle.yaml_scalars.specs.Number.{number, past_sign, is_negative, is_wide, parts_of}
-use Rattle.yaml_scalars.specs.Kind.{is_null, is_true, is_false, is_octal, is_hexadecimal, is_decimal_whole, signed, fits_whole, whole, decimal, numeral, scalar}
-use Rattle.yaml_print.specs.Written.{Layer, is_text_layer, is_text}
+use Rattle.yaml_scalars.specs.Kind.{is_null, is_true, is_false, is_octal, is_hexadecimal, is_decimal_whole, with_sign, fits_whole, whole, decimal, numeral, scalar}
+use Rattle.yaml_print.specs.ScalarText.{Layer, is_text_layer, is_text}
 use Rattle.yaml_print.proofs.BoolLemmas.{true_not_false}
 
 pub back : (v : Node) → roll-Node (out-Node v) ≡ v
@@ -82,8 +82,8 @@ text_chosen false x y w f g h = g h
 
 whole_text : (left : ℕ) (t : Text) (below : Bool) (size : ℕ) (w : Node) → is_text (whole left t below size) ≡ true → whole left t below size ≡ Ok w
 whole_text left t below size w =
-    text_chosen (fits_whole below size) (Ok (nd.Whole (signed below size) t)) (Err (TooWide left)) w
-    (not_text (Node-F.Whole (signed below size) t) (nd.Whole (signed below size) t) _ (out_whole (signed below size) t) refl)
+    text_chosen (fits_whole below size) (Ok (nd.Whole (with_sign below size) t)) (Err (TooWide left)) w
+    (not_text (Node-F.Whole (with_sign below size) t) (nd.Whole (with_sign below size) t) _ (out_whole (with_sign below size) t) refl)
     (λ h. absurd (true_not_false (sym h)))
 
 decimal_text : (left : ℕ) (t : Text) (wide : Option Bool) → is_text (decimal left t wide) ≡ true → decimal left t wide ≡ Ok (nd.Text t)

@@ -2,7 +2,7 @@
 use Rattle.std.proofs.Common.{◌≡◌, ℕ, suc, ◌-◌, ◌<◌, ◌++◌, ◌∷◌, [], refl, ap, sym, subst, ◌∙◌, arith}
 use Rattle.dvc_base.specs.declared.node.Node.{Node, out-Node}
 use Rattle.dvc_base.specs.declared.node.Node.TheOpen.{Node-F}
-use Rattle.yaml_print.specs.Written.{Layer}
+use Rattle.yaml_print.specs.ScalarText.{Layer}
 use Rattle.yaml_print.specs.Print.{inline_text, layer_text, node_text}
 use Rattle.yaml_print.specs.Sound.{Inside, IsScalar, IsFlat, IsSound, IsSpelt, AreTexts}
 

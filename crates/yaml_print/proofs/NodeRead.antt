@@ -7,7 +7,7 @@ use Rattle.dvc_base.specs.declared.node.Pair.{Pair}
 use Rattle.yaml_text.specs.Outcome.{Text, Step, ◌>>=◌}
 use Rattle.yaml_nodes.specs.Part.{steps, too_deep, key_of}
 use Rattle.yaml_nodes.specs.Block.{inline, begins_item, begins_key, sequence, mapping, mapping_turn, block}
-use Rattle.yaml_print.specs.Written.{Layer}
+use Rattle.yaml_print.specs.ScalarText.{Layer}
 use Rattle.yaml_print.specs.Print.{value_of, inline_text, rows, item_text, value_text, pair_text, layer_text, node_text}
 use Rattle.yaml_print.specs.Sound.{Inside, IsScalar, IsFlat, IsProper, IsSound, IsSpelt, AreTexts}
 use Rattle.yaml_print.proofs.NodeLemmas.{scalar_flat}
@@ -16,21 +16,21 @@ use Rattle.yaml_print.proofs.LineRead.{IsHead, Below}
 use Rattle.yaml_print.proofs.InlineRead.{feed_ends, IsUnmarked}
 use Rattle.yaml_print.proofs.WrittenRead.{Value, written_key}
 use Rattle.yaml_print.proofs.FlatRead.{scalar_value, flat_value}
-use Rattle.yaml_print.proofs.ItemsRead.{Stop, Reads, items_read}
-use Rattle.yaml_print.proofs.PairsRead.{at_pair, pair_apart, pair_head, pair_marks, pair_no_item, parts_value, pairs_read}
+use Rattle.yaml_print.proofs.ItemsRead.{EndsNode, Reads, items_read}
+use Rattle.yaml_print.proofs.PairsRead.{at_pair, pair_apart, pair_head, pair_marks, pair_no_item, follows_colon_value, pairs_read}
 
 -- ---- scalars and empty collections
 
-flat_stop : (l : Layer) (least column : ℕ) (t : Text) → IsFlat l → Stop l least column t → Below least t
-flat_stop (Node-F.Items (x ∷ xs)) least column t f s = absurd f
-flat_stop (Node-F.Items []) least column t f s = s
-flat_stop (Node-F.Pairs (p ∷ ps)) least column t f s = absurd f
-flat_stop (Node-F.Pairs []) least column t f s = s
-flat_stop Node-F.Null least column t f s = s
-flat_stop (Node-F.Bool b) least column t f s = s
-flat_stop (Node-F.Whole n w) least column t f s = s
-flat_stop (Node-F.Decimal w) least column t f s = s
-flat_stop (Node-F.Text w) least column t f s = s
+flat_ends : (l : Layer) (least column : ℕ) (t : Text) → IsFlat l → EndsNode l least column t → Below least t
+flat_ends (Node-F.Items (x ∷ xs)) least column t f s = absurd f
+flat_ends (Node-F.Items []) least column t f s = s
+flat_ends (Node-F.Pairs (p ∷ ps)) least column t f s = absurd f
+flat_ends (Node-F.Pairs []) least column t f s = s
+flat_ends Node-F.Null least column t f s = s
+flat_ends (Node-F.Bool b) least column t f s = s
+flat_ends (Node-F.Whole n w) least column t f s = s
+flat_ends (Node-F.Decimal w) least column t f s = s
+flat_ends (Node-F.Text w) least column t f s = s
 
 pub flat_text : (inner : ℕ → Node → Text) (n : ℕ) (l : Layer) → IsFlat l → layer_text inner n l ≡ inline_text l ++ 10 ∷ []
 flat_text inner n (Node-F.Items (x ∷ xs)) f = absurd f
@@ -86,9 +86,9 @@ not_items l x xs o h is = absurd (subst (λ k. IsScalar k) is h)
 
 reads_none : Reads 0
 reads_none = record {
-  reads = λ v least column t sound texts stop.
+  reads = λ v least column t sound texts ends.
       ap (block 0 least column) (none_text column v t)
-      ∙ none_block v least column t (none_value v sound texts) (flat_stop (out-Node v) least column t (scalar_flat (out-Node v) ((none_sound v sound).1)) stop);
+      ∙ none_block v least column t (none_value v sound texts) (flat_ends (out-Node v) least column t (scalar_flat (out-Node v) ((none_sound v sound).1)) ends);
   inlines = λ v least column t sound texts flat b.
       ap (inline 0 least) (none_text column v t) ∙ (none_value v sound texts).reads 0 least t (omega arith) b;
   heads = λ v column t sound texts.
@@ -120,13 +120,13 @@ flat_layer d least column l t flat proper spelt b =
     ∙ ap (block (suc d) least column) (line_apart (inline_text l) t)
     ∙ no_collection 1 (suc d) least (inline_text l) t (roll-Node l) (sequence (block d) column u) (mapping d (block d) column u) (flat_value l flat proper spelt) (omega arith) b
 
-sequence_read : (d : ℕ) → Reads d → (least column : ℕ) (x : Node) (xs : List Node) (t : Text) → Inside (IsSound d) (Node-F.Items (x ∷ xs)) → Inside (AreTexts d) (Node-F.Items (x ∷ xs)) → Stop (Node-F.Items (x ∷ xs)) least column t
+sequence_read : (d : ℕ) → Reads d → (least column : ℕ) (x : Node) (xs : List Node) (t : Text) → Inside (IsSound d) (Node-F.Items (x ∷ xs)) → Inside (AreTexts d) (Node-F.Items (x ∷ xs)) → EndsNode (Node-F.Items (x ∷ xs)) least column t
     → block (suc d) least column (layer_text (node_text d) column (Node-F.Items (x ∷ xs)) ++ t) ≡ Ok (roll-Node (Node-F.Items (x ∷ xs)), t)
 unfolding block sequence
-sequence_read d r least column x xs t sound texts stop =
+sequence_read d r least column x xs t sound texts ends =
     let line = item_text (node_text d) column in
     ap (block (suc d) least column) (append_assoc (line x) (rows column line xs) t)
-    ∙ ap (λ o. o >>= λ q. Ok (nd.Items q.0, q.1)) (items_read d r column [] x xs t sound texts stop)
+    ∙ ap (λ o. o >>= λ q. Ok (nd.Items q.0, q.1)) (items_read d r column [] x xs t sound texts ends)
     ∙ ap (λ v. Ok (v, t)) (sym (nd.rolls-Items (x ∷ xs)))
 
 pairs_apart : (d column : ℕ) (p : Pair) (ps : List Pair) (t : Text)
@@ -136,10 +136,10 @@ pairs_apart d column p ps t =
     ∙ pair_apart d column p (rows column (pair_text (node_text d) column) ps ++ t)
 
 mapping_read : (d : ℕ) → Reads d → (least column : ℕ) (p : Pair) (ps : List Pair) (t : Text) → IsProper (Node-F.Pairs (p ∷ ps)) → IsSpelt (Node-F.Pairs (p ∷ ps))
-    → Inside (IsSound d) (Node-F.Pairs (p ∷ ps)) → Inside (AreTexts d) (Node-F.Pairs (p ∷ ps)) → Stop (Node-F.Pairs (p ∷ ps)) least column t
+    → Inside (IsSound d) (Node-F.Pairs (p ∷ ps)) → Inside (AreTexts d) (Node-F.Pairs (p ∷ ps)) → EndsNode (Node-F.Pairs (p ∷ ps)) least column t
     → block (suc d) least column (layer_text (node_text d) column (Node-F.Pairs (p ∷ ps)) ++ t) ≡ Ok (roll-Node (Node-F.Pairs (p ∷ ps)), t)
 unfolding block mapping
-mapping_read d r least column p ps t fresh spelt sound texts stop =
+mapping_read d r least column p ps t fresh spelt sound texts ends =
     let rest = rows column (pair_text (node_text d) column) ps ++ t in
     let u = at_pair d column p rest in
     let s = sequence (block d) column u in
@@ -147,21 +147,21 @@ mapping_read d r least column p ps t fresh spelt sound texts stop =
     let i = inline (suc d) least u in
     ap (block (suc d) least column) (pairs_apart d column p ps t)
     ∙ ap (λ c. cond c s (begins_key u >>= λ is_key. cond is_key m i)) (pair_no_item d column p rest spelt.0)
-    ∙ ap (λ o. o >>= λ is_key. cond is_key m i) ((written_key (key_of p) spelt.0).begins (value_text (node_text d) column (value_of p) ++ rest) (parts_value d column (value_of p) rest))
-    ∙ ap (λ o. o >>= λ q. Ok (nd.Pairs q.0, q.1)) (pairs_read d r column [] p ps t spelt sound texts fresh stop)
+    ∙ ap (λ o. o >>= λ is_key. cond is_key m i) ((written_key (key_of p) spelt.0).begins (value_text (node_text d) column (value_of p) ++ rest) (follows_colon_value d column (value_of p) rest))
+    ∙ ap (λ o. o >>= λ q. Ok (nd.Pairs q.0, q.1)) (pairs_read d r column [] p ps t spelt sound texts fresh ends)
     ∙ ap (λ v. Ok (v, t)) (sym (nd.rolls-Pairs (p ∷ ps)))
 
-layer_read : (d : ℕ) → Reads d → (least column : ℕ) (l : Layer) (t : Text) → IsProper l → IsSpelt l → Inside (IsSound d) l → Inside (AreTexts d) l → Stop l least column t
+layer_read : (d : ℕ) → Reads d → (least column : ℕ) (l : Layer) (t : Text) → IsProper l → IsSpelt l → Inside (IsSound d) l → Inside (AreTexts d) l → EndsNode l least column t
     → block (suc d) least column (layer_text (node_text d) column l ++ t) ≡ Ok (roll-Node l, t)
-layer_read d r least column (Node-F.Items (x ∷ xs)) t proper spelt sound texts stop = sequence_read d r least column x xs t sound texts stop
-layer_read d r least column (Node-F.Pairs (p ∷ ps)) t proper spelt sound texts stop = mapping_read d r least column p ps t proper spelt sound texts stop
-layer_read d r least column (Node-F.Items []) t proper spelt sound texts stop = flat_layer d least column (Node-F.Items []) t tt proper spelt stop
-layer_read d r least column (Node-F.Pairs []) t proper spelt sound texts stop = flat_layer d least column (Node-F.Pairs []) t tt proper spelt stop
-layer_read d r least column Node-F.Null t proper spelt sound texts stop = flat_layer d least column Node-F.Null t tt proper spelt stop
-layer_read d r least column (Node-F.Bool b) t proper spelt sound texts stop = flat_layer d least column (Node-F.Bool b) t tt proper spelt stop
-layer_read d r least column (Node-F.Whole n w) t proper spelt sound texts stop = flat_layer d least column (Node-F.Whole n w) t tt proper spelt stop
-layer_read d r least column (Node-F.Decimal w) t proper spelt sound texts stop = flat_layer d least column (Node-F.Decimal w) t tt proper spelt stop
-layer_read d r least column (Node-F.Text w) t proper spelt sound texts stop = flat_layer d least column (Node-F.Text w) t tt proper spelt stop
+layer_read d r least column (Node-F.Items (x ∷ xs)) t proper spelt sound texts ends = sequence_read d r least column x xs t sound texts ends
+layer_read d r least column (Node-F.Pairs (p ∷ ps)) t proper spelt sound texts ends = mapping_read d r least column p ps t proper spelt sound texts ends
+layer_read d r least column (Node-F.Items []) t proper spelt sound texts ends = flat_layer d least column (Node-F.Items []) t tt proper spelt ends
+layer_read d r least column (Node-F.Pairs []) t proper spelt sound texts ends = flat_layer d least column (Node-F.Pairs []) t tt proper spelt ends
+layer_read d r least column Node-F.Null t proper spelt sound texts ends = flat_layer d least column Node-F.Null t tt proper spelt ends
+layer_read d r least column (Node-F.Bool b) t proper spelt sound texts ends = flat_layer d least column (Node-F.Bool b) t tt proper spelt ends
+layer_read d r least column (Node-F.Whole n w) t proper spelt sound texts ends = flat_layer d least column (Node-F.Whole n w) t tt proper spelt ends
+layer_read d r least column (Node-F.Decimal w) t proper spelt sound texts ends = flat_layer d least column (Node-F.Decimal w) t tt proper spelt ends
+layer_read d r least column (Node-F.Text w) t proper spelt sound texts ends = flat_layer d least column (Node-F.Text w) t tt proper spelt ends
 
 flat_head : (d column : ℕ) (l : Layer) (t : Text) → IsFlat l → IsProper l → IsSpelt l → IsHead (layer_text (node_text d) column l ++ t)
 flat_head d column l t flat proper spelt =
@@ -208,10 +208,10 @@ back_ok v t = ap (λ x. Ok (x, t)) (back v)
 
 reads_more : (d : ℕ) → Reads d → Reads (suc d)
 reads_more d r = record {
-  reads = λ v least column t sound texts stop.
+  reads = λ v least column t sound texts ends.
       let s = more_sound d v sound in
       let w = more_spelt d v texts in
-      ap (block (suc d) least column) (more_text d column v t) ∙ layer_read d r least column (out-Node v) t s.0 w.0 s.1 w.1 stop ∙ back_ok v t;
+      ap (block (suc d) least column) (more_text d column v t) ∙ layer_read d r least column (out-Node v) t s.0 w.0 s.1 w.1 ends ∙ back_ok v t;
   inlines = λ v least column t sound texts flat b.
       ap (inline (suc d) least) (more_text d column v t) ∙ more_inline d least column (out-Node v) t flat ((more_sound d v sound).0) ((more_spelt d v texts).0) b ∙ back_ok v t;
   heads = λ v column t sound texts.

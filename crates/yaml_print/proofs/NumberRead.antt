@@ -12,9 +12,9 @@ use Rattle.dvc_base.specs.declared.node.Node.TheVariants as nd
 use Rattle.yaml_text.specs.Outcome.{Text, Outcome}
 use Rattle.yaml_text.specs.Line.{is_white, is_bad}
 use Rattle.yaml_scalars.specs.Number.{past_sign, digits_len, is_octal_digit, are_all, Parts, exponent_of, fraction_of, behind_whole, unsigned_parts, parts_of, is_wide}
-use Rattle.yaml_scalars.specs.Plain.{stops_before, and_more, plain_len, begins_plain, is_reserved, is_gap, parts}
+use Rattle.yaml_scalars.specs.Plain.{ends_before, and_more, plain_len, begins_plain, is_reserved, is_gap, may_follow_colon}
 use Rattle.yaml_scalars.specs.Kind.{is_null, is_true, is_false, is_based, is_octal, is_hexadecimal, is_decimal_whole, decimal, numeral, scalar}
-use Rattle.yaml_print.specs.Written.{Layer, is_marked, is_one_line}
+use Rattle.yaml_print.specs.ScalarText.{Layer, begins_as_marker, is_one_line}
 use Rattle.std.proofs.lemmas.List.{take-append-drop}
 use Rattle.std.proofs.lemmas.List.Folds.{list_all-append}
 use Rattle.yaml_print.proofs.BoolLemmas.{either, true_not_false, same, eq_self, both_left, both_right, both, either_false, right_false}
@@ -36,12 +36,12 @@ calm_good b h =
     let low : ltb b 32 ≡ false = grind (arith, nat_tests) in
     either_false (ltb b 32 && not (eqb b 9 || eqb b 10)) (eqb b 127) (ap (λ v. v && not (eqb b 9 || eqb b 10)) low) (calm_apart b 127 refl h)
 
-calm_goes_on : (white : Bool) (b : ℕ) (t : Text) → is_calm b ≡ true → stops_before false white b t ≡ false
+calm_goes_on : (white : Bool) (b : ℕ) (t : Text) → is_calm b ≡ true → ends_before false white b t ≡ false
 calm_goes_on white b t h =
-    either_false (((eqb b 10 || is_bad b) || (white && eqb b 35)) || (eqb b 58 && parts false t)) false
-    (either_false ((eqb b 10 || is_bad b) || (white && eqb b 35)) (eqb b 58 && parts false t)
+    either_false (((eqb b 10 || is_bad b) || (white && eqb b 35)) || (eqb b 58 && may_follow_colon false t)) false
+    (either_false ((eqb b 10 || is_bad b) || (white && eqb b 35)) (eqb b 58 && may_follow_colon false t)
     (either_false (eqb b 10 || is_bad b) (white && eqb b 35) (either_false (eqb b 10) (is_bad b) (calm_apart b 10 refl h) (calm_good b h)) (right_false white (eqb b 35) (calm_apart b 35 refl h)))
-    (ap (λ v. v && parts false t) (calm_apart b 58 refl h))) refl
+    (ap (λ v. v && may_follow_colon false t) (calm_apart b 58 refl h))) refl
 
 calm_not_white : (b : ℕ) → is_calm b ≡ true → is_white b ≡ false
 calm_not_white b h = either_false (eqb b 32) (eqb b 9) (calm_apart b 32 refl h) (calm_apart b 9 refl h)
@@ -111,15 +111,15 @@ digit_begins b r h =
     let signs : (eqb b 45 || eqb b 63 || eqb b 58) ≡ false =
     either_false (eqb b 45 || eqb b 63) (eqb b 58) (either_false (eqb b 45) (eqb b 63) (digit_apart b 45 refl h) (digit_apart b 63 refl h)) (digit_apart b 58 refl h) in
     ap not
-    (either_false ((is_reserved b || is_white b) || ((eqb b 45 || eqb b 63 || eqb b 58) && is_gap r)) (stops_before false false b r)
+    (either_false ((is_reserved b || is_white b) || ((eqb b 45 || eqb b 63 || eqb b 58) && is_gap r)) (ends_before false false b r)
     (either_false (is_reserved b || is_white b) ((eqb b 45 || eqb b 63 || eqb b 58) && is_gap r)
     (either_false (is_reserved b) (is_white b) (digit_free b h) (calm_not_white b c)) (ap (λ v. v && is_gap r) signs))
     (calm_goes_on false b r c))
 
-one_line_by : (t : Text) → begins_plain false t ≡ true → list_all is_calm t ≡ true → is_marked t ≡ false → is_one_line t ≡ true
+one_line_by : (t : Text) → begins_plain false t ≡ true → list_all is_calm t ≡ true → begins_as_marker t ≡ false → is_one_line t ≡ true
 one_line_by t begins calm marked =
     let e : eqb (plain_len false false t) (length t) ≡ true = ap (λ n. eqb n (length t)) (calm_whole false t calm) ∙ eq_self (length t) in
-    both (begins_plain false t && eqb (plain_len false false t) (length t)) (not (is_marked t)) (both (begins_plain false t) (eqb (plain_len false false t) (length t)) begins e) (ap not marked)
+    both (begins_plain false t && eqb (plain_len false false t) (length t)) (not (begins_as_marker t)) (both (begins_plain false t) (eqb (plain_len false false t) (length t)) begins e) (ap not marked)
 
 digit_line : (b : ℕ) (r : Text) → list_all is_calm (b ∷ r) ≡ true → is_ascii_digit b ≡ true → OneLine (b ∷ r)
 digit_line b r calm h =

@@ -11,18 +11,18 @@ use Rattle.dvc_base.specs.declared.node.Pair.{Pair}
 use Rattle.yaml_text.specs.declared.refusal.Refusal.TheVariants.{Duplicate}
 use Rattle.yaml_text.specs.Outcome.{Text, Step, ◌>>=◌, syntax}
 use Rattle.yaml_text.specs.Line.{spaces, past_spaces, past_white, rest_of_line, next_line}
-use Rattle.yaml_scalars.specs.Plain.{parts}
+use Rattle.yaml_scalars.specs.Plain.{may_follow_colon}
 use Rattle.yaml_nodes.specs.Part.{steps, key_of, has_key, with_pair}
 use Rattle.yaml_nodes.specs.Flow.{is_merge, new_key}
 use Rattle.yaml_nodes.specs.Block.{inline, begins_item, with_found, value_below, value, next_pair, with_value, mapping_turn, block}
-use Rattle.yaml_print.specs.Written.{Layer, written}
-use Rattle.yaml_print.specs.Print.{value_of, rows, deeper, value_by, value_text, pair_text, node_text}
+use Rattle.yaml_print.specs.ScalarText.{Layer, scalar_text}
+use Rattle.yaml_print.specs.Print.{value_of, rows, extra_columns, value_by, value_text, pair_text, node_text}
 use Rattle.yaml_print.specs.Sound.{Each, IsFlat, are_new, IsSound, AreTexts}
 use Rattle.yaml_print.proofs.BoolLemmas.{true_not_false, eq_self, both_right}
 use Rattle.yaml_print.proofs.LineRead.{IsHead, at_column, spaces_at, past_spaces_at, next_at, Below, Follows, below_more, follows_below, follows_at, below_no_pair}
 use Rattle.yaml_print.proofs.InlineRead.{IsUnmarked, colon_ends}
 use Rattle.yaml_print.proofs.WrittenRead.{written_key}
-use Rattle.yaml_print.proofs.ItemsRead.{last_turn, more_turns, Stop, Reads, no_white_end, past_space, more_rows}
+use Rattle.yaml_print.proofs.ItemsRead.{last_turn, more_turns, EndsNode, Reads, no_white_end, past_space, more_rows}
 
 -- ---- values
 
@@ -52,12 +52,12 @@ flat_read d r n v t sound texts flat f =
     beside_read d n (node_text d n v ++ t) (r.heads v n t sound texts)
     ∙ r.inlines v (n + 1) n t sound texts flat (subst (λ k. Below k t) e f.below)
 
-deep_read : (d : ℕ) → Reads d → (n m : ℕ) (v : Node) (t : Text) → IsSound d v → AreTexts d v → Stop (out-Node v) (n + 1) m t → (ltb n m || (eqb m n && begins_item (node_text d m v ++ t))) ≡ true
+deep_read : (d : ℕ) → Reads d → (n m : ℕ) (v : Node) (t : Text) → IsSound d v → AreTexts d v → EndsNode (out-Node v) (n + 1) m t → (ltb n m || (eqb m n && begins_item (node_text d m v ++ t))) ≡ true
     → value d (block d) n ((10 ∷ (replicate m 32 ++ node_text d m v)) ++ t) ≡ Ok (v, t)
-deep_read d r n m v t sound texts stop deep =
+deep_read d r n m v t sound texts ends deep =
     ap (λ u. value d (block d) n (10 ∷ u)) (append_assoc (replicate m 32) (node_text d m v) t)
     ∙ below_read d n m (node_text d m v ++ t) (r.heads v m t sound texts) deep
-    ∙ r.reads v (n + 1) m t sound texts stop
+    ∙ r.reads v (n + 1) m t sound texts ends
 
 less_two : (n : ℕ) (b : Bool) → (ltb n (n + 2) || b) ≡ true
 less_two n b = let e : ltb n (n + 2) ≡ true = grind (arith, nat_tests) in ap (λ v. v || b) e
@@ -73,13 +73,13 @@ flat_as : (l m : Layer) → l ≡ m → IsFlat m → IsFlat l
 flat_as l m e h = subst (λ k. IsFlat k) (sym e) h
 
 value_read_by : (d : ℕ) → Reads d → (n : ℕ) (v : Node) (t : Text) → IsSound d v → AreTexts d v → Follows n t → (l : Layer) → out-Node v ≡ l
-    → value d (block d) n (value_by (node_text d) n v (deeper l) ++ t) ≡ Ok (v, t)
+    → value d (block d) n (value_by (node_text d) n v (extra_columns l) ++ t) ≡ Ok (v, t)
 value_read_by d r n v t sound texts f (Node-F.Items (x ∷ xs)) is =
     let e : n ≡ n + 0 = omega arith in
-    deep_read d r n (n + 0) v t sound texts (subst (λ k. Stop k (n + 1) (n + 0) t) (sym is) (subst (λ k. Follows k t) e f))
+    deep_read d r n (n + 0) v t sound texts (subst (λ k. EndsNode k (n + 1) (n + 0) t) (sym is) (subst (λ k. Follows k t) e f))
     (same_column n (begins_item (node_text d (n + 0) v ++ t)) (r.dashes v x xs (n + 0) t sound is))
 value_read_by d r n v t sound texts f (Node-F.Pairs (p ∷ ps)) is =
-    deep_read d r n (n + 2) v t sound texts (subst (λ k. Stop k (n + 1) (n + 2) t) (sym is) (below_more (suc n) (n + 2) t (omega arith) f.below))
+    deep_read d r n (n + 2) v t sound texts (subst (λ k. EndsNode k (n + 1) (n + 2) t) (sym is) (below_more (suc n) (n + 2) t (omega arith) f.below))
     (less_two n (eqb (n + 2) n && begins_item (node_text d (n + 2) v ++ t)))
 value_read_by d r n v t sound texts f (Node-F.Items []) is = flat_read d r n v t sound texts (flat_as (out-Node v) (Node-F.Items []) is tt) f
 value_read_by d r n v t sound texts f (Node-F.Pairs []) is = flat_read d r n v t sound texts (flat_as (out-Node v) (Node-F.Pairs []) is tt) f
@@ -94,18 +94,18 @@ value_read d r n v t sound texts f = value_read_by d r n v t sound texts f (out-
 
 -- ---- pairs
 
-parts_by : (d n : ℕ) (v : Node) (o : Option ℕ) (t : Text) → parts false (value_by (node_text d) n v o ++ t) ≡ true
-parts_by d n v None t = refl
-parts_by d n v (Some m) t = refl
+follows_colon_by : (d n : ℕ) (v : Node) (o : Option ℕ) (t : Text) → may_follow_colon false (value_by (node_text d) n v o ++ t) ≡ true
+follows_colon_by d n v None t = refl
+follows_colon_by d n v (Some m) t = refl
 
-pub parts_value : (d n : ℕ) (v : Node) (t : Text) → parts false (value_text (node_text d) n v ++ t) ≡ true
-parts_value d n v t = parts_by d n v (deeper (out-Node v)) t
+pub follows_colon_value : (d n : ℕ) (v : Node) (t : Text) → may_follow_colon false (value_text (node_text d) n v ++ t) ≡ true
+follows_colon_value d n v t = follows_colon_by d n v (extra_columns (out-Node v)) t
 
 abbrev pub at_pair : ℕ → ℕ → Pair → Text → Text
-at_pair d n p t = written (key_of p) ++ 58 ∷ (value_text (node_text d) n (value_of p) ++ t)
+at_pair d n p t = scalar_text (key_of p) ++ 58 ∷ (value_text (node_text d) n (value_of p) ++ t)
 
 pub pair_apart : (d n : ℕ) (p : Pair) (t : Text) → pair_text (node_text d) n p ++ t ≡ at_pair d n p t
-pair_apart d n p t = append_assoc (written (key_of p)) (58 ∷ value_text (node_text d) n (value_of p)) t
+pair_apart d n p t = append_assoc (scalar_text (key_of p)) (58 ∷ value_text (node_text d) n (value_of p)) t
 
 pub pair_head : (d n : ℕ) (p : Pair) (t : Text) → IsUtf8 (key_of p) → IsHead (at_pair d n p t)
 pair_head d n p t spelt = (written_key (key_of p) spelt).head (58 ∷ (value_text (node_text d) n (value_of p) ++ t)) (colon_ends (value_text (node_text d) n (value_of p) ++ t))
@@ -130,7 +130,7 @@ pair_turn d r n found p t next spelt sound texts fresh f is =
     let k = written_key (key_of p) spelt in
     let u = value_text (node_text d) n (value_of p) ++ t in
     let w = at_pair d n p t in
-    ap (λ o. o >>= with_value d (block d) n found w) (k.reads u (parts_value d n (value_of p) t))
+    ap (λ o. o >>= with_value d (block d) n found w) (k.reads u (follows_colon_value d n (value_of p) t))
     ∙ ap (λ o. o >>= λ name. value d (block d) n u >>= λ q. Ok (with_found (with_pair found name q.0) (next_pair n q.1))) (new_key_read found w (key_of p) (k.no_merge u) fresh)
     ∙ ap (λ o. o >>= λ q. Ok (with_found (with_pair found (key_of p) q.0) (next_pair n q.1))) (value_read d r n (value_of p) t sound texts f)
     ∙ ap (λ q. Ok (with_found (found ++ p ∷ []) q)) is
@@ -166,7 +166,7 @@ pairs_read d r n found p (q ∷ qs) t spelt sound texts fresh b =
     let turn = mapping_turn d (block d) n in
     let head = pair_head d n q rest spelt.1.0 in
     let less : length s < length (at_pair d n p u) =
-    omega (arith, length-append (written (key_of p)) (58 ∷ (value_text (node_text d) n (value_of p) ++ u)), length-append (value_text (node_text d) n (value_of p)) u, length-append (replicate n 32) s) in
+    omega (arith, length-append (scalar_text (key_of p)) (58 ∷ (value_text (node_text d) n (value_of p) ++ u)), length-append (value_text (node_text d) n (value_of p)) u, length-append (replicate n 32) s) in
     ap (λ w. steps turn found (at_pair d n p w)) e
     ∙ more_turns turn found (found ++ p ∷ []) (at_pair d n p u) s
     (pair_turn d r n found p u (false, s) spelt.0 sound.0 texts.0 (fresh_by (has_key (key_of p) found) (are_new (found ++ p ∷ []) (q ∷ qs)) fresh)

@@ -11,14 +11,14 @@ use Rattle.yaml_text.specs.Line.{is_rest_empty, spaces, past_spaces, past_white,
 use Rattle.yaml_text.specs.Source.{source, body_len}
 use Rattle.yaml_scalars.specs.Turns.{Turn}
 use Rattle.yaml_scalars.specs.Number.{number, past_sign, is_negative, is_wide, parts_of}
-use Rattle.yaml_scalars.specs.Kind.{is_null, is_true, is_false, is_octal, is_hexadecimal, is_decimal_whole, signed, fits_whole, whole, decimal, numeral, scalar}
+use Rattle.yaml_scalars.specs.Kind.{is_null, is_true, is_false, is_octal, is_hexadecimal, is_decimal_whole, with_sign, fits_whole, whole, decimal, numeral, scalar}
 use Rattle.yaml_scalars.specs.Plain.{begins_plain, plain}
 use Rattle.yaml_scalars.specs.Quoted.{quoted}
 use Rattle.yaml_scalars.specs.Lines.{lines}
-use Rattle.yaml_nodes.specs.Part.{steps_within, steps, first, is_quote, opens, plain_node, quoted_node, key_of, has_key, with_pair}
+use Rattle.yaml_nodes.specs.Part.{steps_within, steps, first, is_quote, begins_form, plain_node, quoted_node, key_of, has_key, with_pair}
 use Rattle.yaml_nodes.specs.Flow.{between_parts, flow_scalar, is_pair, behind_item, item_at, item_turn, items, flow_key, is_merge, new_key, is_key_colon, value_at, flow_value, behind_pair, with_key, pair_turn, pairs, flow_form, flow_node}
 use Rattle.yaml_nodes.specs.Block.{line_end, lines_node, inline, begins_item, begins_key, item_below, item, sequence_turn, sequence, block_key, value_below, value, mapping_turn, mapping, block}
-use Rattle.yaml_nodes.specs.Document.{max_depth, alone, root, past_marker, document, tail, with_tail, with_body, read, parse}
+use Rattle.yaml_nodes.specs.Document.{max_depth, sole_node, root, past_marker, document, tail, with_tail, with_body, read, parse}
 use Rattle.yaml_print.specs.Print.{value_of}
 use Rattle.yaml_print.specs.Sound.{Each, are_new, IsSound, IsPrintable}
 use Rattle.yaml_print.proofs.BoolLemmas.{both, both_left, both_right}
@@ -48,7 +48,7 @@ Kind d w v = scalar 0 w ≡ Ok v → IsSound d v
 
 whole_kind : (d left : ℕ) (w : Text) (below : Bool) (size : ℕ) → Gives (Kind d w) (whole left w below size)
 whole_kind d left w below size =
-    choice (Kind d w) (fits_whole below size) (Ok (nd.Whole (signed below size) w)) (Err (TooWide left)) (λ h. sound_whole d (signed below size) w h) tt
+    choice (Kind d w) (fits_whole below size) (Ok (nd.Whole (with_sign below size) w)) (Err (TooWide left)) (λ h. sound_whole d (with_sign below size) w h) tt
 
 decimal_kind : (d left : ℕ) (w : Text) (wide : Option Bool) → Gives (Kind d w) (decimal left w wide)
 decimal_kind d left w None = λ h. sound_text d w
@@ -222,8 +222,8 @@ form_sound d node inner t = choice (First (suc d)) (eqb (first t) 91) _ _ (items
 
 flow_sound : (d : ℕ) → Inner d (flow_node d)
 unfolding flow_node
-flow_sound zero t = choice (First 0) (opens t) _ _ tt (scalar_sound 0 t)
-flow_sound (suc d) t = choice (First (suc d)) (opens t) _ _ (form_sound d (flow_node d) (flow_sound d) t) (scalar_sound (suc d) t)
+flow_sound zero t = choice (First 0) (begins_form t) _ _ tt (scalar_sound 0 t)
+flow_sound (suc d) t = choice (First (suc d)) (begins_form t) _ _ (form_sound d (flow_node d) (flow_sound d) t) (scalar_sound (suc d) t)
 
 -- ---- nodes of block style. `inner` reads what stands in them
 
@@ -237,7 +237,7 @@ lines_sound d least t = anything (First d) (lines (eqb (first t) 62) least (drop
 inline_sound : (d least : ℕ) (t : Text) → Gives (First d) (inline d least t)
 unfolding inline
 inline_sound d least t =
-    choice (First d) (opens t) _ _ (ended_sound d (flow_node d t) (flow_sound d t))
+    choice (First d) (begins_form t) _ _ (ended_sound d (flow_node d t) (flow_sound d t))
     (choice (First d) (is_quote t) _ _ (ended_sound d (quoted_node t (drop 1 t)) (quoted_sound d t (drop 1 t)))
     (choice (First d) (eqb (first t) 124 || eqb (first t) 62) _ _ (lines_sound d least t)
     (choice (First d) (begins_plain false t) _ _ (ended_sound d (plain_node false least t) (plain_sound d false least t)) tt)))
@@ -295,13 +295,13 @@ block_sound (suc d) least column t =
 
 -- ---- the document
 
-alone_sound : (d : ℕ) (r : Node × Text) → IsSound d r.0 → Gives (IsSound d) (alone r)
-alone_sound d r h = choice (IsSound d) (eqb (length r.1) 0) _ _ h tt
+sole_node_sound : (d : ℕ) (r : Node × Text) → IsSound d r.0 → Gives (IsSound d) (sole_node r)
+sole_node_sound d r h = choice (IsSound d) (eqb (length r.1) 0) _ _ h tt
 
-root_by : (d : ℕ) (t : Text) → Gives (IsSound d) (cond (eqb (length t) 0) (Ok nd.Null) (block d 0 (spaces t) (past_spaces t) >>= alone))
+root_by : (d : ℕ) (t : Text) → Gives (IsSound d) (cond (eqb (length t) 0) (Ok nd.Null) (block d 0 (spaces t) (past_spaces t) >>= sole_node))
 root_by d t =
     choice (IsSound d) (eqb (length t) 0) (Ok nd.Null) _ (sound_null d)
-    (then (First d) (IsSound d) (block d 0 (spaces t) (past_spaces t)) alone (block_sound d 0 (spaces t) (past_spaces t)) (λ r h. alone_sound d r h))
+    (then (First d) (IsSound d) (block d 0 (spaces t) (past_spaces t)) sole_node (block_sound d 0 (spaces t) (past_spaces t)) (λ r h. sole_node_sound d r h))
 
 document_sound : (t : Text) → Gives IsPrintable (document t)
 unfolding document

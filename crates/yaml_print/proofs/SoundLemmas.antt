@@ -9,7 +9,7 @@ use Rattle.dvc_base.specs.declared.node.Node.TheVariants as nd
 use Rattle.dvc_base.specs.declared.node.Pair.{Pair}
 use Rattle.yaml_text.specs.Outcome.{Text}
 use Rattle.yaml_scalars.specs.Kind.{scalar}
-use Rattle.yaml_print.specs.Written.{Layer}
+use Rattle.yaml_print.specs.ScalarText.{Layer}
 use Rattle.yaml_print.specs.Print.{value_of}
 use Rattle.yaml_print.specs.Sound.{Each, Inside, IsScalar, IsProper, are_new, IsSound}
 use Rattle.yaml_print.proofs.NodeCases.{out_null, out_bool, out_whole, out_decimal, out_text, out_items, out_pairs}

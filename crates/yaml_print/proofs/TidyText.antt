@@ -12,8 +12,8 @@ use Rattle.dvc_base.specs.declared.node.Node.TheOpen.{Node-F}
 use Rattle.dvc_base.specs.declared.node.Pair.{Pair}
 use Rattle.yaml_text.specs.Outcome.{Text}
 use Rattle.yaml_nodes.specs.Part.{key_of}
-use Rattle.yaml_print.specs.Written.{Layer, written}
-use Rattle.yaml_print.specs.Print.{value_of, inline_text, rows, item_text, deeper, value_by, value_text, pair_text, layer_text, node_text}
+use Rattle.yaml_print.specs.ScalarText.{Layer, scalar_text}
+use Rattle.yaml_print.specs.Print.{value_of, inline_text, rows, item_text, extra_columns, value_by, value_text, pair_text, layer_text, node_text}
 use Rattle.yaml_print.specs.Sound.{Each, Inside, IsFlat, IsProper, IsSound, IsSpelt, AreTexts}
 use Rattle.yaml_print.proofs.BoolLemmas.{either, true_not_false, same, both_left, both_right}
 use Rattle.yaml_print.proofs.Shown.{is_shown, is_graph, Fine, graphs_fine}
@@ -126,8 +126,8 @@ value_tidy d r n v (Some m) t sound texts h =
 pair_line : (d : ℕ) → Tidy d → (n : ℕ) (p : Pair) → IsUtf8 (key_of p) → IsSound d (value_of p) → AreTexts d (value_of p) → TidyLine (pair_text (node_text d) n p)
 pair_line d r n p spelt sound texts =
     let k = written_key (key_of p) spelt in
-    let w = written (key_of p) in
-    let o = deeper (out-Node (value_of p)) in
+    let w = scalar_text (key_of p) in
+    let o = extra_columns (out-Node (value_of p)) in
     let v = value_text (node_text d) n (value_of p) in
     record {
       spelt = IsUtf8-append w (58 ∷ v) (k.fine.spelt) (IsUtf8-append (58 ∷ []) v ((graphs_fine (58 ∷ []) refl).spelt) (value_spelt d r n (value_of p) o sound texts));

@@ -9,20 +9,20 @@ use Rattle.dvc_base.specs.declared.node.Node.{Node}
 use Rattle.dvc_base.specs.declared.node.Node.TheVariants as nd
 use Rattle.yaml_text.specs.Outcome.{Text, Outcome, Step, ◌>>=◌, syntax}
 use Rattle.yaml_text.specs.Line.{past_spaces}
-use Rattle.yaml_scalars.specs.Plain.{begins_plain, parts, is_colon, plain_len}
+use Rattle.yaml_scalars.specs.Plain.{begins_plain, may_follow_colon, is_colon, plain_len}
 use Rattle.yaml_scalars.specs.Turns.{Turn, all_turns}
 use Rattle.yaml_scalars.specs.Quoted.{quoted, quoted_turn}
 use Rattle.yaml_scalars.specs.Kind.{scalar}
 use Rattle.yaml_nodes.specs.Part.{first, is_quote, is_on_one_line, plain_node, quoted_node}
 use Rattle.yaml_nodes.specs.Flow.{flow_node, is_merge}
 use Rattle.yaml_nodes.specs.Block.{line_end, lines_node, inline, begins_item, behind_plain, begins_key, behind_key, block_key}
-use Rattle.yaml_print.specs.Written.{needs_escape, is_text, is_one_line, is_plain, coded, between, in_quotes, written}
+use Rattle.yaml_print.specs.ScalarText.{needs_escape, is_text, is_one_line, is_plain, text_of_each, between, in_quotes, scalar_text}
 use Rattle.yaml_print.specs.Sound.{Each}
 use Rattle.yaml_print.proofs.BoolLemmas.{true_not_false, same, both_left, both_right, neither_left, neither_right, not_true}
 use Rattle.yaml_print.proofs.PlainRead.{plain_shown}
 use Rattle.yaml_print.proofs.NodeCases.{text_kind}
 use Rattle.yaml_print.proofs.Shown.{Fine, is_shown, fine_append, graphs_fine}
-use Rattle.yaml_print.proofs.QuotedRead.{left, left_meant, Read, coded_fine, text_read}
+use Rattle.yaml_print.proofs.QuotedRead.{left, left_at_meaning, Read, each_fine, text_read}
 use Rattle.yaml_print.proofs.CharacterRead.{double_read, single_read}
 use Rattle.yaml_print.proofs.LineRead.{IsHead, Below}
 use Rattle.yaml_print.proofs.InlineRead.{order_mark, Ends, IsUnmarked, OneLine, one_line, one_line_head, one_line_no_item, plain_inline, plain_no_key, plain_key, plain_key_read, ended}
@@ -33,8 +33,8 @@ pub record Key (w t : Text) : Type 0 where
   pub marks : (u : Text) → Ends u → IsUnmarked (w ++ u)
   pub head : (u : Text) → Ends u → IsHead (w ++ u)
   pub no_item : (u : Text) → begins_item (w ++ u) ≡ false
-  pub begins : (u : Text) → parts false u ≡ true → begins_key (w ++ 58 ∷ u) ≡ Ok true
-  pub reads : (u : Text) → parts false u ≡ true → block_key (w ++ 58 ∷ u) ≡ Ok (t, u)
+  pub begins : (u : Text) → may_follow_colon false u ≡ true → begins_key (w ++ 58 ∷ u) ≡ Ok true
+  pub reads : (u : Text) → may_follow_colon false u ≡ true → block_key (w ++ 58 ∷ u) ≡ Ok (t, u)
   pub no_merge : (u : Text) → is_merge (w ++ 58 ∷ u) t ≡ false
 
 -- w is read as the node v, where at least `low` collections may still stand in one another
@@ -76,14 +76,14 @@ plain_is_key w f l merge = record {
 -- ---- between quotes
 
 abbrev ReadsQuoted : ℕ → Text → Type 0
-ReadsQuoted quote t = (over : Bool) (u : Text) → eqb (slice_index u 0) 39 ≡ false → quoted quote over ((coded (between quote) (chars t) ++ quote ∷ []) ++ u) ≡ Ok (t, u)
+ReadsQuoted quote t = (over : Bool) (u : Text) → eqb (slice_index u 0) 39 ≡ false → quoted quote over ((text_of_each (between quote) (chars t) ++ quote ∷ []) ++ u) ≡ Ok (t, u)
 
 reads_quoted : (quote : ℕ) (Good : ℕ → Type 0) (t : Text) → IsUtf8 t
     → ((over : Bool) (f q : Text) (c : ℕ) (w : Text) → Good c → Read quote over f q c w)
     → ((over : Bool) (u f q : Text) → eqb (slice_index u 0) 39 ≡ false → left quote over f q (quote ∷ u) ≡ Ok (f ++ q, u))
     → Each Good (chars t) → ReadsQuoted quote t
 reads_quoted quote Good t spelt step last good = λ over u e.
-    ap (quoted quote over) (append_assoc (coded (between quote) (chars t)) (quote ∷ []) u)
+    ap (quoted quote over) (append_assoc (text_of_each (between quote) (chars t)) (quote ∷ []) u)
     ∙ text_read quote over Good t u spelt (step over) (λ f q. last over u f q e) good
 
 each_any : (cs : List ℕ) → Each (λ c. Unit {0}) cs
@@ -95,12 +95,12 @@ each_none [] h = tt
 each_none (c ∷ cs) h = (neither_left (needs_escape c) (list_any needs_escape cs) h, each_none cs (neither_right (needs_escape c) (list_any needs_escape cs) h))
 
 double_end : (over : Bool) (u f q : Text) → eqb (slice_index u 0) 39 ≡ false → left 34 over f q (34 ∷ u) ≡ Ok (f ++ q, u)
-double_end over u f q e = left_meant 34 over f q u 34 refl
+double_end over u f q e = left_at_meaning 34 over f q u 34 refl
 
 single_end : (over : Bool) (u f q : Text) → eqb (slice_index u 0) 39 ≡ false → left 39 over f q (39 ∷ u) ≡ Ok (f ++ q, u)
 single_end over u f q e =
     let go : Turn Text → Step Text = λ r. cond r.0 (Ok r.1) (all_turns (quoted_turn 39 over) r.1.0 r.1.1) in
-    left_meant 39 over f q u 39 refl ∙ ap (λ v. go (cond v (false, ((f ++ q) ++ 39 ∷ [], drop 1 u)) (true, (f ++ q, u)))) e
+    left_at_meaning 39 over f q u 39 refl ∙ ap (λ v. go (cond v (false, ((f ++ q) ++ 39 ∷ [], drop 1 u)) (true, (f ++ q, u)))) e
 
 double_reads : (t : Text) → IsUtf8 t → ReadsQuoted 34 t
 double_reads t spelt = reads_quoted 34 (λ c. Unit {0}) t spelt (λ over f q c w g. double_read over f q c w) double_end (each_any (chars t))
@@ -108,19 +108,19 @@ double_reads t spelt = reads_quoted 34 (λ c. Unit {0}) t spelt (λ over f q c w
 single_reads : (t : Text) → IsUtf8 t → list_any needs_escape (chars t) ≡ false → ReadsQuoted 39 t
 single_reads t spelt h = reads_quoted 39 (λ c. needs_escape c ≡ false) t spelt (λ over f q c w g. single_read over f q c w g) single_end (each_none (chars t) h)
 
-quotes_fine : (quote : ℕ) (t : Text) → Fine (quote ∷ []) → Fine (coded (between quote) (chars t)) → Fine (in_quotes quote t)
+quotes_fine : (quote : ℕ) (t : Text) → Fine (quote ∷ []) → Fine (text_of_each (between quote) (chars t)) → Fine (in_quotes quote t)
 unfolding in_quotes
-quotes_fine quote t q f = fine_append (quote ∷ []) (coded (between quote) (chars t) ++ quote ∷ []) q (fine_append (coded (between quote) (chars t)) (quote ∷ []) f q)
+quotes_fine quote t q f = fine_append (quote ∷ []) (text_of_each (between quote) (chars t) ++ quote ∷ []) q (fine_append (text_of_each (between quote) (chars t)) (quote ∷ []) f q)
 
 double_fine : (t : Text) → IsUtf8 t → Fine (in_quotes 34 t)
 double_fine t spelt =
     quotes_fine 34 t (graphs_fine (34 ∷ []) refl)
-    (coded_fine 34 true (λ c. Unit {0}) (chars t) (λ f q c w g. double_read true f q c w) (each_any (chars t)) (scalars-chars t spelt))
+    (each_fine 34 true (λ c. Unit {0}) (chars t) (λ f q c w g. double_read true f q c w) (each_any (chars t)) (scalars-chars t spelt))
 
 single_fine : (t : Text) → IsUtf8 t → list_any needs_escape (chars t) ≡ false → Fine (in_quotes 39 t)
 single_fine t spelt h =
     quotes_fine 39 t (graphs_fine (39 ∷ []) refl)
-    (coded_fine 39 true (λ c. needs_escape c ≡ false) (chars t) (λ f q c w g. single_read true f q c w g) (each_none (chars t) h) (scalars-chars t spelt))
+    (each_fine 39 true (λ c. needs_escape c ≡ false) (chars t) (λ f q c w g. single_read true f q c w g) (each_none (chars t) h) (scalars-chars t spelt))
 
 -- ---- on one line
 
@@ -161,7 +161,7 @@ quoted_no_key quote t u is r =
     ap (λ x. cond x (quoted quote true (drop 1 w) >>= f) (Ok (begins_plain false w && is_colon false (behind_plain w)))) is.0
     ∙ ap (λ o. o >>= f) (r true (10 ∷ u) refl)
 
-quoted_key : (quote : ℕ) (t u : Text) → IsQuote quote → ReadsQuoted quote t → Fine (in_quotes quote t) → parts false u ≡ true → begins_key (in_quotes quote t ++ 58 ∷ u) ≡ Ok true
+quoted_key : (quote : ℕ) (t u : Text) → IsQuote quote → ReadsQuoted quote t → Fine (in_quotes quote t) → may_follow_colon false u ≡ true → begins_key (in_quotes quote t ++ 58 ∷ u) ≡ Ok true
 unfolding begins_key in_quotes
 quoted_key quote t u is r fine p =
     let w = in_quotes quote t ++ 58 ∷ u in
@@ -171,7 +171,7 @@ quoted_key quote t u is r fine p =
     ∙ ap (λ x. Ok (x && is_on_one_line w (58 ∷ u))) p
     ∙ ap Ok (on_one_line (in_quotes quote t) (58 ∷ u) fine)
 
-quoted_key_read : (quote : ℕ) (t u : Text) → IsQuote quote → ReadsQuoted quote t → parts false u ≡ true → block_key (in_quotes quote t ++ 58 ∷ u) ≡ Ok (t, u)
+quoted_key_read : (quote : ℕ) (t u : Text) → IsQuote quote → ReadsQuoted quote t → may_follow_colon false u ≡ true → block_key (in_quotes quote t ++ 58 ∷ u) ≡ Ok (t, u)
 unfolding block_key in_quotes
 quoted_key_read quote t u is r p =
     let w = in_quotes quote t ++ 58 ∷ u in
@@ -277,8 +277,8 @@ no_order_mark (a ∷ b ∷ []) h = ends_by (eqb a 239) (eqb b 187)
 no_order_mark (a ∷ b ∷ c ∷ t) h = marked_by a b c t h (eqb a 239) (eqb b 187) (eqb c 191) refl refl refl
 
 written_by : (t : Text) (escapes is : Bool) → list_any needs_escape (chars t) ≡ escapes → is_plain t ≡ is
-    → cond escapes (in_quotes 34 t) (cond is t (in_quotes 39 t)) ≡ written t
-unfolding written
+    → cond escapes (in_quotes 34 t) (cond is t (in_quotes 39 t)) ≡ scalar_text t
+unfolding scalar_text
 written_by t escapes is h k = sym (ap (λ v. cond v (in_quotes 34 t) (cond (is_plain t) t (in_quotes 39 t))) h ∙ ap (λ v. cond escapes (in_quotes 34 t) (cond v t (in_quotes 39 t))) k)
 
 key_by : (t : Text) → IsUtf8 t → (escapes is : Bool) → list_any needs_escape (chars t) ≡ escapes → is_plain t ≡ is → Key (cond escapes (in_quotes 34 t) (cond is t (in_quotes 39 t))) t
@@ -298,12 +298,12 @@ value_by t spelt false true h k =
     plain_value t (nd.Text t) (one_line_fine t spelt l) l (λ n. text_kind n t p.2)
 value_by t spelt false false h k = single_value t (single_reads t spelt h) (single_fine t spelt h)
 
-pub written_key : (t : Text) → IsUtf8 t → Key (written t) t
+pub written_key : (t : Text) → IsUtf8 t → Key (scalar_text t) t
 written_key t spelt =
     let e = list_any needs_escape (chars t) in
     subst (λ w. Key w t) (written_by t e (is_plain t) refl refl) (key_by t spelt e (is_plain t) refl refl)
 
-pub written_value : (t : Text) → IsUtf8 t → Value 0 (written t) (nd.Text t)
+pub written_value : (t : Text) → IsUtf8 t → Value 0 (scalar_text t) (nd.Text t)
 written_value t spelt =
     let e = list_any needs_escape (chars t) in
     subst (λ w. Value 0 w (nd.Text t)) (written_by t e (is_plain t) refl refl) (value_by t spelt e (is_plain t) refl refl)

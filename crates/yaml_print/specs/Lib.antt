@@ -1,3 +1,3 @@
-pub mod Written
+pub mod ScalarText
 pub mod Print
 pub mod Sound

@@ -11,7 +11,7 @@ use Rattle.dvc_base.specs.declared.node.Pair.{Pair}
 use Rattle.yaml_scalars.specs.Kind.{scalar}
 use Rattle.yaml_nodes.specs.Part.{key_of, has_key}
 use Rattle.yaml_nodes.specs.Document.{max_depth}
-use Rattle.yaml_print.specs.Written.{Layer}
+use Rattle.yaml_print.specs.ScalarText.{Layer}
 use Rattle.yaml_print.specs.Print.{value_of}
 
 abbrev pub Each : {A : Type 0} → (A → Type 0) → List A → Type 0

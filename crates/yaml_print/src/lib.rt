@@ -2,6 +2,6 @@
 #![tactic(auto)]
 
 mod node;
-mod written;
+mod scalar_text;
 
 pub use node::print;

@@ -2,17 +2,18 @@
 ghost use Rattle.std.specs.Prelude.{◌≡◌, ◌<◌, ◌≤◌, ◌+◌, ◌*◌, ◌^◌, ◌++◌, ◌∷◌, [], Ok, IfOk, IfSome, OnOk, replicate};
 ghost use Rattle.std.specs.Str.{IsUtf8};
 ghost use Rattle.dvc_base.specs.declared.node.Node.{out-Node};
+ghost use Rattle.yaml_text.specs.Characters.{line_feed, space};
 ghost use Rattle.yaml_nodes.specs.Part.{key_of};
 ghost use Rattle.yaml_nodes.specs.Document.{parse};
 ghost use Rattle.yaml_print.specs.Print as spec;
 ghost use Rattle.yaml_print.specs.Print.{value_of};
 ghost use Rattle.yaml_print.specs.Sound.{Each, Inside, IsSound, IsFlat, IsSpelt, IsPrintable, AreTexts};
 
-use crate::written::write_text;
+use crate::scalar_text::write_text;
 use dvc_base::{Bytes, NoMemory, Node, Pair};
 use std::alloc::Global;
 
-/// How many collections may stand in one another.
+// How many collections may stand in one another.
 const MAX_DEPTH: usize = 64;
 
 fn push_bytes(out: &mut Vec<u8>, bytes: &[u8]) -> Result<(), NoMemory>
@@ -23,7 +24,7 @@ fn push_bytes(out: &mut Vec<u8>, bytes: &[u8]) -> Result<(), NoMemory>
 }
 
 fn indent(out: &mut Vec<u8>, column: usize) -> Result<(), NoMemory>
-    ensures { OnOk result (out.new.items ≡ out.old.items ++ replicate column 32) }
+    ensures { OnOk result (out.new.items ≡ out.old.items ++ replicate column space) }
 {
     for _ in 0..column {
         out.push(b' ')?;
@@ -31,7 +32,7 @@ fn indent(out: &mut Vec<u8>, column: usize) -> Result<(), NoMemory>
     Ok(())
 }
 
-/// A text as it is, which its type keeps in UTF-8.
+// A text as it is, which its type keeps in UTF-8.
 fn push_text(out: &mut Vec<u8>, text: &str) -> Result<(), NoMemory>
     ensures exact { OnOk result (out.new.items ≡ out.old.items ++ text.now) }
     ensures spelt { IsUtf8 text.now }
@@ -39,7 +40,7 @@ fn push_text(out: &mut Vec<u8>, text: &str) -> Result<(), NoMemory>
     push_bytes(out, text.as_bytes())
 }
 
-/// A scalar, `[]` or `{}`.
+// A scalar, `[]` or `{}`.
 fn inline(alloc: Global, out: &mut Vec<u8>, node: &Node) -> Result<(), NoMemory>
     ensures exact { OnOk result (out.new.items ≡ out.old.items ++ spec.inline_text (out-Node node.now)) }
     ensures spelt { IsFlat (out-Node node.now) → IsSpelt (out-Node node.now) }
@@ -56,18 +57,18 @@ fn inline(alloc: Global, out: &mut Vec<u8>, node: &Node) -> Result<(), NoMemory>
     }
 }
 
-/// What stands on one line, with its end.
+// What stands on one line, with its end.
 fn line(alloc: Global, out: &mut Vec<u8>, node: &Node) -> Result<(), NoMemory>
-    ensures exact { OnOk result (out.new.items ≡ out.old.items ++ (spec.inline_text (out-Node node.now) ++ 10 ∷ [])) }
+    ensures exact { OnOk result (out.new.items ≡ out.old.items ++ (spec.inline_text (out-Node node.now) ++ line_feed ∷ [])) }
     ensures spelt { IsFlat (out-Node node.now) → IsSpelt (out-Node node.now) }
 {
     inline(alloc, out, node)?;
     push_bytes(out, b"\n")
 }
 
-/// How much deeper than its key a value stands on the lines below; beside its key it has none.
-fn deeper(node: &Node) -> Option<usize>
-    ensures value { result ≡ spec.deeper (out-Node node.now) }
+// How much deeper than its key a value stands on the lines below; beside its key it has none.
+fn extra_columns(node: &Node) -> Option<usize>
+    ensures value { result ≡ spec.extra_columns (out-Node node.now) }
     ensures little { IfSome result (λ more. more ≤ 2) }
 {
     match node {
@@ -97,7 +98,7 @@ fn node_at(
     }
 }
 
-/// A node in which at most `depth` + 1 collections stand in one another.
+// A node in which at most `depth` + 1 collections stand in one another.
 #[cycle(node)]
 fn layer(
     alloc: Global,
@@ -209,7 +210,7 @@ fn pair(
     value(alloc, out, depth, column, &pair.value)
 }
 
-/// A value, behind the colon.
+// A value, behind the colon.
 #[cycle(node)]
 fn value(
     alloc: Global,
@@ -223,7 +224,7 @@ fn value(
     ensures exact { OnOk result (out.new.items ≡ out.old.items ++ spec.value_text (spec.node_text depth) column node.now) }
     ensures spelt { OnOk result (AreTexts depth node.now) }
 {
-    match deeper(node) {
+    match extra_columns(node) {
         None => {
             push_bytes(out, b" ")?;
             node_at(alloc, out, depth, column, node)

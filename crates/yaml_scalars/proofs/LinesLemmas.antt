@@ -8,7 +8,7 @@ use Rattle.yaml_scalars.specs.declared.lines.Ending.{Ending}
 use Rattle.yaml_scalars.specs.declared.lines.Last.{Last}
 use Rattle.yaml_scalars.specs.declared.lines.Last.TheVariants.{Nothing, Flush, Spaced}
 use Rattle.yaml_scalars.specs.Turns.{Turn}
-use Rattle.yaml_scalars.specs.Lines.{Found, empty_from, empty_lines, between, last_of, line_len, past_break, with_line, ended, spaced_line, line_by, line_at, line_turn}
+use Rattle.yaml_scalars.specs.Lines.{Found, empty_from, empty_lines, between, last_of, line_len, past_break, with_line, last_turn, spaced_line, line_by_indentation, line_at, line_turn}
 use Rattle.yaml_scalars.proofs.TurnLemmas.{Shrinks, Less, cond_less, less_ok, true_is_last}
 
 le_cond : (b : Bool) (x y : ℕ × Text) (n : ℕ) → length x.1 ≤ n → length y.1 ≤ n → length (cond b x y).1 ≤ n
@@ -53,14 +53,14 @@ spaced_line_less n folding most (found, Nothing) k start some h = tt
 spaced_line_less n folding most (found, Flush) k start some h = with_line_less n folding (found, Flush) k (drop most start) some (omega (arith, drop_le most start))
 spaced_line_less n folding most (found, Spaced) k start some h = with_line_less n folding (found, Spaced) k (drop most start) some (omega (arith, drop_le most start))
 
-line_by_less : (n : ℕ) (folding : Bool) (style : Ending) (least most : ℕ) (found : Found) (k : ℕ) (start inner : Text) → 0 < n → length start ≤ n
-    → Less n (line_by folding style least most found k start inner)
-line_by_less n folding style least most found k start [] some h = spaced_line_less n folding most found k start some h
-line_by_less n folding style least most found k start (b ∷ t) some h =
+line_by_indentation_less : (n : ℕ) (folding : Bool) (style : Ending) (least most : ℕ) (found : Found) (k : ℕ) (start inner : Text) → 0 < n → length start ≤ n
+    → Less n (line_by_indentation folding style least most found k start inner)
+line_by_indentation_less n folding style least most found k start [] some h = spaced_line_less n folding most found k start some h
+line_by_indentation_less n folding style least most found k start (b ∷ t) some h =
     cond_less n (eqb b 10) (spaced_line folding most found k start)
-    (cond (ltb (spaces start) least) (ended style found k start) (cond (ltb (spaces start) most) (syntax (b ∷ t)) (with_line folding found k (drop most start))))
+    (cond (ltb (spaces start) least) (last_turn style found k start) (cond (ltb (spaces start) most) (syntax (b ∷ t)) (with_line folding found k (drop most start))))
     (spaced_line_less n folding most found k start some h)
-    (cond_less n (ltb (spaces start) least) (ended style found k start) (cond (ltb (spaces start) most) (syntax (b ∷ t)) (with_line folding found k (drop most start)))
+    (cond_less n (ltb (spaces start) least) (last_turn style found k start) (cond (ltb (spaces start) most) (syntax (b ∷ t)) (with_line folding found k (drop most start)))
     (λ e. absurd (true_is_last e))
     (cond_less n (ltb (spaces start) most) (syntax (b ∷ t)) (with_line folding found k (drop most start)) tt
     (with_line_less n folding found k (drop most start) some (omega (arith, drop_le most start)))))
@@ -69,8 +69,8 @@ line_at_less : (n : ℕ) (folding : Bool) (style : Ending) (least most : ℕ) (f
     → Less n (line_at folding style least most found (k, start))
 line_at_less n folding style least most found k [] h = λ e. absurd (true_is_last e)
 line_at_less n folding style least most found k (b ∷ t) h =
-    cond_less n (eqb (length (b ∷ t)) 0) (ended style found k []) (line_by folding style least most found k (b ∷ t) (past_spaces (b ∷ t)))
-    (λ e. absurd (true_is_last e)) (line_by_less n folding style least most found k (b ∷ t) (past_spaces (b ∷ t)) (omega arith) h)
+    cond_less n (eqb (length (b ∷ t)) 0) (last_turn style found k []) (line_by_indentation folding style least most found k (b ∷ t) (past_spaces (b ∷ t)))
+    (λ e. absurd (true_is_last e)) (line_by_indentation_less n folding style least most found k (b ∷ t) (past_spaces (b ∷ t)) (omega arith) h)
 
 pub line_shrinks : (folding : Bool) (style : Ending) (least most : ℕ) → Shrinks (line_turn folding style least most)
 unfolding line_turn

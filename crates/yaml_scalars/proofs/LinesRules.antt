@@ -12,7 +12,7 @@ use Rattle.yaml_scalars.specs.declared.lines.Ending.{Ending}
 use Rattle.yaml_scalars.specs.declared.lines.Last.{Last}
 use Rattle.yaml_scalars.specs.declared.lines.Last.TheVariants.{Nothing, Flush, Spaced}
 use Rattle.yaml_scalars.specs.Turns.{Turn, all_turns}
-use Rattle.yaml_scalars.specs.Lines.{Found, margin, empty_lines, between, ending, last_of, line_len, past_break, with_line, ended, spaced_line, line_by, line_at, line_turn, lines_below, style_of, past_style, lines}
+use Rattle.yaml_scalars.specs.Lines.{Found, margin, empty_lines, between, ending, last_of, line_len, past_break, with_line, last_turn, spaced_line, line_by_indentation, line_at, line_turn, lines_below, style_of, past_style, lines}
 use Rattle.yaml_scalars.specs.Rules as g
 use Rattle.yaml_scalars.proofs.TurnLemmas.{turns_err, turns_last, turns_more}
 use Rattle.yaml_scalars.proofs.LinesLemmas.{line_shrinks}
@@ -21,17 +21,17 @@ use Rattle.yaml_scalars.proofs.LinesLemmas.{line_shrinks}
 
 -- what a line without its indentation, or none, makes of the turn
 abbrev with_next : Bool → Ending → Found → ℕ → Text → Option Text → Outcome (Turn Found)
-with_next folding style found k start None = ended style found k start
+with_next folding style found k start None = last_turn style found k start
 with_next folding style found k start (Some line) = with_line folding found k line
 
 empty_by : (folding : Bool) (style : Ending) (least most : ℕ) (found : Found) (k : ℕ) (start inner : Text) → g.has_character inner ≡ false
-    → line_by folding style least most found k start inner ≡ spaced_line folding most found k start
+    → line_by_indentation folding style least most found k start inner ≡ spaced_line folding most found k start
 empty_by folding style least most found k start [] h = refl
 empty_by folding style least most found k start (b ∷ t) h = elim (eqb_tells b 10) [ inl w ↦ (let e = w.0 in cc) | inr w ↦ absurd (let e = w.0 in cc) ]
 
 filled_by : (folding : Bool) (style : Ending) (least most : ℕ) (found : Found) (k : ℕ) (start inner : Text) → g.has_character inner ≡ true
-    → line_by folding style least most found k start inner
-    ≡ cond (ltb (spaces start) least) (ended style found k start) (cond (ltb (spaces start) most) (syntax inner) (with_line folding found k (drop most start)))
+    → line_by_indentation folding style least most found k start inner
+    ≡ cond (ltb (spaces start) least) (last_turn style found k start) (cond (ltb (spaces start) most) (syntax inner) (with_line folding found k (drop most start)))
 filled_by folding style least most found k start [] h = absurd (cc)
 filled_by folding style least most found k start (b ∷ t) h = elim (eqb_tells b 10) [ inl w ↦ absurd (let e = w.0 in cc) | inr w ↦ (let e = w.0 in cc) ]
 
@@ -40,7 +40,7 @@ filled_some [] h = absurd (cc)
 filled_some (b ∷ t) h = omega arith
 
 at_some : (folding : Bool) (style : Ending) (least most : ℕ) (found : Found) (k : ℕ) (start : Text) → 0 < length start
-    → line_at folding style least most found (k, start) ≡ line_by folding style least most found k start (past_spaces start)
+    → line_at folding style least most found (k, start) ≡ line_by_indentation folding style least most found k start (past_spaces start)
 at_some folding style least most found k start h = let d : eqb (length start) 0 ≡ false = ne_eqb (length start) 0 (λ e. absurd (omega arith)) in cc
 
 spaced : (folding : Bool) (most : ℕ) (found : Text) (last : Last) (k : ℕ) (start : Text) → (last ≡ Nothing → ⊥)
@@ -92,14 +92,14 @@ line_total least most last (b ∷ t) =
 
 break_sound : (t : Text) (o : Outcome Text) → g.IsBreak t o → past_break t ≡ o
 break_sound t o g.at_end = refl
-break_sound t o g.line_feed = refl
+break_sound t o g.at_feed = refl
 break_sound t o (g.IsBreak.bad_character {b = b} n) = let d = ne_eqb b 10 n in cc
 
 break_total : (t : Text) → Gives (g.IsBreak t)
 break_total [] = (Ok [], g.at_end)
 break_total (b ∷ t) =
     elim (eqb_tells b 10)
-    [ inl w ↦ (Ok t, subst (λ c. g.IsBreak (c ∷ t) (Ok t)) (sym w.1) g.line_feed) | inr w ↦ (syntax (b ∷ t), g.IsBreak.bad_character w.1) ]
+    [ inl w ↦ (Ok t, subst (λ c. g.IsBreak (c ∷ t) (Ok t)) (sym w.1) g.at_feed) | inr w ↦ (syntax (b ∷ t), g.IsBreak.bad_character w.1) ]
 
 -- ---- one turn
 
@@ -146,7 +146,7 @@ content_sound : (folding : Bool) (style : Ending) (least most : ℕ) (found : Te
     → content folding style least most (found, last) t ≡ o
 content_sound folding style least most found last t o (g.IsContent.bad_line {e = e} s) =
     err folding style least most (found, last) t e (turn_at folding style least most found last t (Err e) s)
-content_sound folding style least most found last t o (g.IsContent.ended s) =
+content_sound folding style least most found last t o (g.IsContent.last_lines s) =
     all_ended folding style least most (found, last) t ((found ++ ending style last (empty_lines most t).0, last), (empty_lines most t).1)
     (turn_at folding style least most found last t (Ok None) s)
 content_sound folding style least most found last t o (g.bad_character_in_line {line = line} {e = e} s b) =
@@ -175,11 +175,11 @@ lines_sound folding least t o (g.lines_below {u = u} h s) =
 abbrev Contents : Bool → Ending → ℕ → ℕ → ℕ → Type 0
 Contents folding style least most n = (found : Text) (last : Last) (t : Text) → length t < n → Gives (g.IsContent folding style least most found last t)
 
-line_by_total : (folding : Bool) (style : Ending) (least most : ℕ) (found : Text) (last : Last) (t : Text) → Contents folding style least most (length t) → (o : Option Text)
+line_by_indentation_total : (folding : Bool) (style : Ending) (least most : ℕ) (found : Text) (last : Last) (t : Text) → Contents folding style least most (length t) → (o : Option Text)
     → g.IsLine least most last (empty_lines most t).1 (Ok o) → Gives (g.IsContent folding style least most found last t)
-line_by_total folding style least most found last t rest None s =
-    (Ok (found ++ ending style last (empty_lines most t).0, (empty_lines most t).1), g.IsContent.ended s)
-line_by_total folding style least most found last t rest (Some line) s =
+line_by_indentation_total folding style least most found last t rest None s =
+    (Ok (found ++ ending style last (empty_lines most t).0, (empty_lines most t).1), g.IsContent.last_lines s)
+line_by_indentation_total folding style least most found last t rest (Some line) s =
     elim (given (g.IsBreak (drop (line_len line) line)) (break_total (drop (line_len line) line))) [
       | inl b ↦
           let text = found ++ between folding last (last_of line) (empty_lines most t).0 ++ take (line_len line) line in
@@ -194,7 +194,7 @@ contents : (folding : Bool) (style : Ending) (least most n : ℕ) → Contents f
 contents folding style least most zero found last t h = absurd (omega arith)
 contents folding style least most (suc n) found last t h =
     elim (given (g.IsLine least most last (empty_lines most t).1) (line_total least most last (empty_lines most t).1)) [
-      | inl s ↦ line_by_total folding style least most found last t (λ f l u k. contents folding style least most n f l u (omega arith)) s.0 s.1
+      | inl s ↦ line_by_indentation_total folding style least most found last t (λ f l u k. contents folding style least most n f l u (omega arith)) s.0 s.1
       | inr e ↦ (Err e.0, g.IsContent.bad_line e.1)
     ]
 

@@ -7,8 +7,8 @@ use Rattle.std.proofs.lemmas.List.Sums.{fold-append}
 use Rattle.std.proofs.Math.Nat.{mul-le-mul_left, one-le-pow, mul_assoc, pow-succ'}
 use Rattle.yaml_text.specs.Outcome.{Text}
 use Rattle.yaml_scalars.specs.Quoted.{digit_value}
-use Rattle.yaml_scalars.specs.Number.{with_base, with_digit, significant, distance, Parts, is_wide_number}
-use Rattle.yaml_scalars.specs.Seen.{most, IsCut}
+use Rattle.yaml_scalars.specs.Number.{with_base, with_digit, significant_part, distance, Parts, is_wide_number}
+use Rattle.yaml_scalars.specs.NumeralParts.{most, IsSameToLimit}
 
 -- alike up to the limit
 either : (m n k : ℕ) → min n m ≡ min k m → (n ≡ k) ⊎ ((m ≤ n) × (m ≤ k))
@@ -53,8 +53,8 @@ zeros_more m v k =
     cut_times m (v * 10) (10 ^ k) (one-le-pow k 10 (omega arith))
     ∙ ap (λ x. min x m) (mul_assoc v 10 (10 ^ k) ∙ ap (λ x. v * x) (sym (pow-succ' 10 k)))
 
-digit_by : (c : Bool) (a b : ℕ × ℕ) (d : ℕ) → IsCut a b
-    → IsCut (cond c (a.0, a.1 + 1) (a.0 * 10 ^ (a.1 + 1) + digit_value d, 0)) (cond c (b.0, b.1 + 1) (b.0 * 10 ^ (b.1 + 1) + digit_value d, 0))
+digit_by : (c : Bool) (a b : ℕ × ℕ) (d : ℕ) → IsSameToLimit a b
+    → IsSameToLimit (cond c (a.0, a.1 + 1) (a.0 * 10 ^ (a.1 + 1) + digit_value d, 0)) (cond c (b.0, b.1 + 1) (b.0 * 10 ^ (b.1 + 1) + digit_value d, 0))
 digit_by true a b d h = (h.0, ap (λ n. n + 1) h.1)
 digit_by false a b d h = (
   plus_respects most (a.0 * 10 ^ (a.1 + 1)) (b.0 * 10 ^ (b.1 + 1)) (digit_value d)
@@ -62,24 +62,24 @@ digit_by false a b d h = (
   refl,
 )
 
-digit_respects : (a b : ℕ × ℕ) (d : ℕ) → IsCut a b → IsCut (with_digit a d) (with_digit b d)
+digit_respects : (a b : ℕ × ℕ) (d : ℕ) → IsSameToLimit a b → IsSameToLimit (with_digit a d) (with_digit b d)
 digit_respects a b d h = digit_by (eqb d 48) a b d h
 
-pub digits_respect : (a b : ℕ × ℕ) (t : Text) → IsCut a b → IsCut (fold with_digit a t) (fold with_digit b t)
+pub digits_respect : (a b : ℕ × ℕ) (t : Text) → IsSameToLimit a b → IsSameToLimit (fold with_digit a t) (fold with_digit b t)
 digits_respect a b [] h = h
 digits_respect a b (d ∷ t) h = digits_respect (with_digit a d) (with_digit b d) t (digit_respects a b d h)
 
-pub digits_twice : (r s : ℕ × ℕ) (whole fraction : Text) → IsCut r (fold with_digit (0, 0) whole) → IsCut s (fold with_digit r fraction)
-    → IsCut s (significant (whole ++ fraction))
+pub digits_twice : (r s : ℕ × ℕ) (whole fraction : Text) → IsSameToLimit r (fold with_digit (0, 0) whole) → IsSameToLimit s (fold with_digit r fraction)
+    → IsSameToLimit s (significant_part (whole ++ fraction))
 digits_twice r s whole fraction h k =
     let more = digits_respect r (fold with_digit (0, 0) whole) fraction h in
     let e = fold-append with_digit (0, 0) whole fraction in
-    subst (IsCut s) (sym e) (k.0 ∙ more.0, k.1 ∙ more.1)
+    subst (IsSameToLimit s) (sym e) (k.0 ∙ more.0, k.1 ∙ more.1)
 
 lt_cut : (n k m l : ℕ) → l < m → min n m ≡ min k m → ltb l n ≡ ltb l k
 lt_cut n k m l h e = grind (arith, nat_tests)
 
-pub wide_cut : (n k : ℕ × ℕ) (p : Parts) → IsCut n k → is_wide_number n p ≡ is_wide_number k p
+pub wide_cut : (n k : ℕ × ℕ) (p : Parts) → IsSameToLimit n k → is_wide_number n p ≡ is_wide_number k p
 wide_cut n k p h =
     let a : ltb (2 ^ 127) n.0 ≡ ltb (2 ^ 127) k.0 = lt_cut n.0 k.0 most (2 ^ 127) (lit< tt) h.0 in
     let b : ltb 0 n.0 ≡ ltb 0 k.0 = lt_cut n.0 k.0 most 0 (lit< tt) h.0 in

@@ -1,10 +1,10 @@
 -- Plain scalars, a byte and a turn at a time.
 use Rattle.std.proofs.Common.{◌≡◌, ℕ, zero, suc, ◌+◌, ◌<◌, ◌≤◌, eqb, ltb, Bool, true, false, cond, [], ◌∷◌, length, drop, Option, Some, None, Ok, refl, ap, ◌∙◌, inl, inr, arith}
 use Rattle.yaml_text.specs.Outcome.{Text, ◌>>=◌, syntax}
-use Rattle.yaml_text.specs.Line.{is_white, is_bad, spaces, past_spaces, past_white, is_marker, checked, blank_lines}
+use Rattle.yaml_text.specs.Line.{is_white, is_bad, spaces, past_spaces, past_white, is_marker, check_line, blank_lines}
 use Rattle.yaml_text.proofs.OutcomeLemmas.{chosen, bind_ok}
-use Rattle.yaml_text.proofs.LineLemmas.{drop_le, past_white_le, past_spaces_le, blank_lines_le, checked_same}
-use Rattle.yaml_scalars.specs.Plain.{plain_len, stops_before, and_more, is_colon, is_over, part_in_flow, part_of_block, part_in_block, goes_on, with_part, next_part, behind_part, plain_turn}
+use Rattle.yaml_text.proofs.LineLemmas.{drop_le, past_white_le, past_spaces_le, blank_lines_le, check_line_same}
+use Rattle.yaml_scalars.specs.Plain.{plain_len, ends_before, and_more, is_colon, is_end_or_comment, part_in_flow, part_of_block, part_in_block, goes_on, with_part, next_part, behind_part, plain_turn}
 use Rattle.yaml_scalars.proofs.TurnLemmas.{Shrinks, last_only, ok_same}
 
 -- how long the part is that ends at `end`, where p bytes more follow behind `at`, or none
@@ -22,10 +22,10 @@ same_len : (flow w : Bool) (t : Text) → cond w (plain_len flow true t) (plain_
 same_len flow true t = refl
 same_len flow false t = refl
 
-going : (flow white : Bool) (b : ℕ) (t : Text) → stops_before flow white b t ≡ false → plain_len flow white (b ∷ t) ≡ cond (is_white b) (and_more (plain_len flow true t)) (suc (plain_len flow false t))
+going : (flow white : Bool) (b : ℕ) (t : Text) → ends_before flow white b t ≡ false → plain_len flow white (b ∷ t) ≡ cond (is_white b) (and_more (plain_len flow true t)) (suc (plain_len flow false t))
 going flow white b t h = ap (λ v. cond v 0 (cond (is_white b) (and_more (plain_len flow true t)) (suc (plain_len flow false t)))) h
 
-pub part_more : (flow white : Bool) (b : ℕ) (t : Text) (end at : ℕ) → stops_before flow white b t ≡ false
+pub part_more : (flow white : Bool) (b : ℕ) (t : Text) (end at : ℕ) → ends_before flow white b t ≡ false
     → so_far end at (plain_len flow white (b ∷ t)) ≡ so_far (cond (is_white b) end (at + 1)) (at + 1) (plain_len flow (is_white b) t)
 part_more flow white b t end at h =
     ap (so_far end at) (going flow white b t h)
@@ -50,11 +50,11 @@ part_of_block_le t u h =
 
 part_in_block_le : (least : ℕ) (start u : Text) → part_in_block least start ≡ Ok (Some u) → length u ≤ length start
 part_in_block_le least start u h =
-    elim (chosen (ltb (spaces start) least) (Ok None) (checked start >>= λ s. part_of_block (past_spaces s)) (Ok (Some u)) h) [
+    elim (chosen (ltb (spaces start) least) (Ok None) (check_line start >>= λ s. part_of_block (past_spaces s)) (Ok (Some u)) h) [
       | inl w ↦ absurd (let e = w.1 in cc)
       | inr w ↦
-          let got = bind_ok (checked start) (λ s. part_of_block (past_spaces s)) (Some u) w.1 in
-          let same = checked_same start got.0 got.1.0 in
+          let got = bind_ok (check_line start) (λ s. part_of_block (past_spaces s)) (Some u) w.1 in
+          let same = check_line_same start got.0 got.1.0 in
           let short = part_of_block_le (past_spaces got.0) u got.1.1 in
           omega (arith, past_spaces_le got.0, ap length same)
     ]
@@ -62,7 +62,7 @@ part_in_block_le least start u h =
 pub goes_on_le : (flow : Bool) (least : ℕ) (start u : Text) → goes_on flow least start ≡ Ok (Some u) → length u ≤ length start
 unfolding goes_on
 goes_on_le flow least start u h =
-    elim (chosen (is_over (past_white start)) (Ok None) (cond flow (part_in_flow start (past_white start)) (part_in_block least start)) (Ok (Some u)) h) [
+    elim (chosen (is_end_or_comment (past_white start)) (Ok None) (cond flow (part_in_flow start (past_white start)) (part_in_block least start)) (Ok (Some u)) h) [
       | inl w ↦ absurd (let e = w.1 in cc)
       | inr w ↦ elim (chosen flow (part_in_flow start (past_white start)) (part_in_block least start) (Ok (Some u)) w.1) [
         | inl v ↦ omega (arith, part_in_flow_le start (past_white start) u v.1, past_white_le start)

@@ -8,7 +8,7 @@ use Rattle.yaml_text.specs.Outcome.{Text, Outcome, syntax}
 use Rattle.yaml_text.specs.Line.{is_white, is_bad, blank_lines}
 use Rattle.yaml_text.proofs.LineLemmas.{drop_le, past_white_le, blank_lines_le}
 use Rattle.yaml_scalars.specs.Turns.{Turn}
-use Rattle.yaml_scalars.specs.Quoted.{digit_value, hex_digit, beside, hex_2, hex_4, hex_8, is_high, is_low, is_character, character, with_low, pair, short, letter, escape_by, escape, solid_len, folded, joined, decoded, escaped, at_quote, at_break, meant, literal_len, quoted_turn}
+use Rattle.yaml_scalars.specs.Quoted.{digit_value, hex_digit, with_low_digits, hex_2, hex_4, hex_8, is_high, is_low, is_character, character, pair_character, surrogate_pair, unit_character, letter, escape_by, escape, solid_len, fold_lines, join_lines, with_escape, at_backslash, at_quote, at_break, at_meaning, literal_len, quoted_turn}
 use Rattle.yaml_scalars.proofs.TurnLemmas.{Shrinks, ok_same}
 
 -- ---- white space at the end of a piece
@@ -50,37 +50,37 @@ hex_digit_within : (n : ℕ) (t : Text) → length t ≤ n → Within n (hex_dig
 hex_digit_within n [] h = tt
 hex_digit_within n (b ∷ t) h = cond_within n (is_ascii_hexdigit b) (Some (digit_value b, t)) None (omega arith) tt
 
-beside_within : (n scale : ℕ) (read : Text → Option (ℕ × Text)) → ((u : Text) → length u ≤ n → Within n (read u)) → (c : ℕ × Text) → length c.1 ≤ n → Within n (beside scale read c)
-beside_within n scale read h c k = then_within n (λ low. Some (scale * c.0 + low.0, low.1)) (read c.1) (h c.1 k) (λ low l. l)
+with_low_digits_within : (n scale : ℕ) (read : Text → Option (ℕ × Text)) → ((u : Text) → length u ≤ n → Within n (read u)) → (c : ℕ × Text) → length c.1 ≤ n → Within n (with_low_digits scale read c)
+with_low_digits_within n scale read h c k = then_within n (λ low. Some (scale * c.0 + low.0, low.1)) (read c.1) (h c.1 k) (λ low l. l)
 
 hex_2_within : (n : ℕ) (t : Text) → length t ≤ n → Within n (hex_2 t)
 unfolding hex_2
-hex_2_within n t h = then_within n (beside 16 hex_digit) (hex_digit t) (hex_digit_within n t h) (beside_within n 16 hex_digit (hex_digit_within n))
+hex_2_within n t h = then_within n (with_low_digits 16 hex_digit) (hex_digit t) (hex_digit_within n t h) (with_low_digits_within n 16 hex_digit (hex_digit_within n))
 
 hex_4_within : (n : ℕ) (t : Text) → length t ≤ n → Within n (hex_4 t)
 unfolding hex_4
-hex_4_within n t h = then_within n (beside 256 hex_2) (hex_2 t) (hex_2_within n t h) (beside_within n 256 hex_2 (hex_2_within n))
+hex_4_within n t h = then_within n (with_low_digits 256 hex_2) (hex_2 t) (hex_2_within n t h) (with_low_digits_within n 256 hex_2 (hex_2_within n))
 
 hex_8_within : (n : ℕ) (t : Text) → length t ≤ n → Within n (hex_8 t)
 unfolding hex_8
-hex_8_within n t h = then_within n (beside 65536 hex_4) (hex_4 t) (hex_4_within n t h) (beside_within n 65536 hex_4 (hex_4_within n))
+hex_8_within n t h = then_within n (with_low_digits 65536 hex_4) (hex_4 t) (hex_4_within n t h) (with_low_digits_within n 65536 hex_4 (hex_4_within n))
 
 character_within : (n : ℕ) (c : ℕ × Text) → length c.1 ≤ n → Within n (character c)
 character_within n c h = cond_within n (is_character c.0) (Some c) None h tt
 
-with_low_within : (n high : ℕ) (c : ℕ × Text) → length c.1 ≤ n → Within n (with_low high c)
-with_low_within n high c h =
+pair_character_within : (n high : ℕ) (c : ℕ × Text) → length c.1 ≤ n → Within n (pair_character high c)
+pair_character_within n high c h =
     let whole : ℕ × Text = (65536 + (high - 55296) * 1024 + (c.0 - 56320), c.1) in
     cond_within n (is_low c.0) (character whole) None (character_within n whole h) tt
 
-pair_within : (n high : ℕ) (t : Text) → length t ≤ n → Within n (pair high t)
-unfolding pair
-pair_within n high t h =
-    cond_within n (eqb (slice_index t 0) 92 && eqb (slice_index t 1) 117) (option_and_then (with_low high) (hex_4 (drop 2 t))) None
-    (then_within n (with_low high) (hex_4 (drop 2 t)) (hex_4_within n (drop 2 t) (omega (arith, drop_le 2 t))) (with_low_within n high)) tt
+surrogate_pair_within : (n high : ℕ) (t : Text) → length t ≤ n → Within n (surrogate_pair high t)
+unfolding surrogate_pair
+surrogate_pair_within n high t h =
+    cond_within n (eqb (slice_index t 0) 92 && eqb (slice_index t 1) 117) (option_and_then (pair_character high) (hex_4 (drop 2 t))) None
+    (then_within n (pair_character high) (hex_4 (drop 2 t)) (hex_4_within n (drop 2 t) (omega (arith, drop_le 2 t))) (pair_character_within n high)) tt
 
-short_within : (n : ℕ) (c : ℕ × Text) → length c.1 ≤ n → Within n (short c)
-short_within n c h = cond_within n (is_high c.0) (pair c.0 c.1) (character c) (pair_within n c.0 c.1 h) (character_within n c h)
+unit_character_within : (n : ℕ) (c : ℕ × Text) → length c.1 ≤ n → Within n (unit_character c)
+unit_character_within n c h = cond_within n (is_high c.0) (surrogate_pair c.0 c.1) (character c) (surrogate_pair_within n c.0 c.1 h) (character_within n c h)
 
 lettered_within : (n : ℕ) (o : Option ℕ) (t : Text) → length t ≤ n → Within n (option_map (λ c. (c, t)) o)
 lettered_within n None t h = tt
@@ -88,10 +88,10 @@ lettered_within n (Some c) t h = h
 
 escape_by_within : (n b : ℕ) (t : Text) → length t ≤ n → Within n (escape_by b t)
 escape_by_within n b t h =
-    cond_within n (eqb b 120) (option_and_then character (hex_2 t)) (cond (eqb b 117) (option_and_then short (hex_4 t)) (cond (eqb b 85) (option_and_then character (hex_8 t)) (option_map (λ c. (c, t)) (letter b))))
+    cond_within n (eqb b 120) (option_and_then character (hex_2 t)) (cond (eqb b 117) (option_and_then unit_character (hex_4 t)) (cond (eqb b 85) (option_and_then character (hex_8 t)) (option_map (λ c. (c, t)) (letter b))))
     (then_within n character (hex_2 t) (hex_2_within n t h) (character_within n))
-    (cond_within n (eqb b 117) (option_and_then short (hex_4 t)) (cond (eqb b 85) (option_and_then character (hex_8 t)) (option_map (λ c. (c, t)) (letter b)))
-    (then_within n short (hex_4 t) (hex_4_within n t h) (short_within n))
+    (cond_within n (eqb b 117) (option_and_then unit_character (hex_4 t)) (cond (eqb b 85) (option_and_then character (hex_8 t)) (option_map (λ c. (c, t)) (letter b)))
+    (then_within n unit_character (hex_4 t) (hex_4_within n t h) (unit_character_within n))
     (cond_within n (eqb b 85) (option_and_then character (hex_8 t)) (option_map (λ c. (c, t)) (letter b))
     (then_within n character (hex_8 t) (hex_8_within n t h) (character_within n))
     (lettered_within n (letter b) t h)))
@@ -112,52 +112,52 @@ cond_leaves : (n : ℕ) (b : Bool) (x y : Outcome (Turn Text)) → Leaves n x �
 cond_leaves n true x y h k = h
 cond_leaves n false x y h k = k
 
-folded_leaves : (n : ℕ) (found t : Text) → length t ≤ n → length (folded found t).1.1 ≤ n
-unfolding folded
-folded_leaves n found t h = omega (arith, past_white_le (blank_lines t).1, blank_lines_le t)
+fold_lines_leaves : (n : ℕ) (found t : Text) → length t ≤ n → length (fold_lines found t).1.1 ≤ n
+unfolding fold_lines
+fold_lines_leaves n found t h = omega (arith, past_white_le (blank_lines t).1, blank_lines_le t)
 
-joined_leaves : (n : ℕ) (found t : Text) → length t ≤ n → length (joined found t).1.1 ≤ n
-unfolding joined
-joined_leaves n found t h = omega (arith, past_white_le (blank_lines t).1, blank_lines_le t)
+join_lines_leaves : (n : ℕ) (found t : Text) → length t ≤ n → length (join_lines found t).1.1 ≤ n
+unfolding join_lines
+join_lines_leaves n found t h = omega (arith, past_white_le (blank_lines t).1, blank_lines_le t)
 
-decoded_leaves : (n : ℕ) (found at : Text) (o : Option (ℕ × Text)) → Within n o → Leaves n (decoded found at o)
-decoded_leaves n found at None h = tt
-decoded_leaves n found at (Some c) h = h
+with_escape_leaves : (n : ℕ) (found at : Text) (o : Option (ℕ × Text)) → Within n o → Leaves n (with_escape found at o)
+with_escape_leaves n found at None h = tt
+with_escape_leaves n found at (Some c) h = h
 
-escaped_leaves : (n : ℕ) (over : Bool) (found at t : Text) → length t ≤ n → Leaves n (escaped over found at t)
-unfolding escaped
-escaped_leaves n over found at t h =
-    cond_leaves n (eqb (slice_index t 0) 10) (cond over (Ok (joined found (drop 1 t))) (syntax at)) (decoded found at (escape t))
-    (cond_leaves n over (Ok (joined found (drop 1 t))) (syntax at) (joined_leaves n found (drop 1 t) (omega (arith, drop_le 1 t))) tt)
-    (decoded_leaves n found at (escape t) (escape_within n t h))
+at_backslash_leaves : (n : ℕ) (over : Bool) (found at t : Text) → length t ≤ n → Leaves n (at_backslash over found at t)
+unfolding at_backslash
+at_backslash_leaves n over found at t h =
+    cond_leaves n (eqb (slice_index t 0) 10) (cond over (Ok (join_lines found (drop 1 t))) (syntax at)) (with_escape found at (escape t))
+    (cond_leaves n over (Ok (join_lines found (drop 1 t))) (syntax at) (join_lines_leaves n found (drop 1 t) (omega (arith, drop_le 1 t))) tt)
+    (with_escape_leaves n found at (escape t) (escape_within n t h))
 
 cond_shorter : (n : ℕ) (b : Bool) (x y : Turn Text) → length x.1.1 ≤ n → length y.1.1 ≤ n → length (cond b x y).1.1 ≤ n
 cond_shorter n true x y h k = h
 cond_shorter n false x y h k = k
 
-pub meant_leaves : (n quote : ℕ) (over : Bool) (found piece t : Text) → length t ≤ suc n → Leaves n (meant quote over found piece t)
-meant_leaves n quote over found piece [] h = tt
-meant_leaves n quote over found piece (b ∷ t) h =
+pub at_meaning_leaves : (n quote : ℕ) (over : Bool) (found piece t : Text) → length t ≤ suc n → Leaves n (at_meaning quote over found piece t)
+at_meaning_leaves n quote over found piece [] h = tt
+at_meaning_leaves n quote over found piece (b ∷ t) h =
     let k : length t ≤ n = omega arith in
     let quoted = at_quote quote (found ++ piece) t in
-    cond_leaves n (eqb b 10) (at_break over found piece (b ∷ t) t) (cond (is_bad b) (syntax (b ∷ t)) (cond (eqb b quote) (Ok quoted) (escaped over (found ++ piece) (b ∷ t) t)))
-    (cond_leaves n over (Ok (folded (found ++ take (solid_len piece) piece) t)) (syntax (b ∷ t)) (folded_leaves n (found ++ take (solid_len piece) piece) t k) tt)
-    (cond_leaves n (is_bad b) (syntax (b ∷ t)) (cond (eqb b quote) (Ok quoted) (escaped over (found ++ piece) (b ∷ t) t)) tt
-    (cond_leaves n (eqb b quote) (Ok quoted) (escaped over (found ++ piece) (b ∷ t) t)
+    cond_leaves n (eqb b 10) (at_break over found piece (b ∷ t) t) (cond (is_bad b) (syntax (b ∷ t)) (cond (eqb b quote) (Ok quoted) (at_backslash over (found ++ piece) (b ∷ t) t)))
+    (cond_leaves n over (Ok (fold_lines (found ++ take (solid_len piece) piece) t)) (syntax (b ∷ t)) (fold_lines_leaves n (found ++ take (solid_len piece) piece) t k) tt)
+    (cond_leaves n (is_bad b) (syntax (b ∷ t)) (cond (eqb b quote) (Ok quoted) (at_backslash over (found ++ piece) (b ∷ t) t)) tt
+    (cond_leaves n (eqb b quote) (Ok quoted) (at_backslash over (found ++ piece) (b ∷ t) t)
     (cond_shorter n (eqb quote 39 && eqb (slice_index t 0) 39) (false, ((found ++ piece) ++ 39 ∷ [], drop 1 t)) (true, (found ++ piece, t)) (omega (arith, drop_le 1 t)) k)
-    (escaped_leaves n over (found ++ piece) (b ∷ t) t k)))
+    (at_backslash_leaves n over (found ++ piece) (b ∷ t) t k)))
 
 leaves_ok : (n : ℕ) (o : Outcome (Turn Text)) (r : Turn Text) → o ≡ Ok r → Leaves n o → length r.1.1 ≤ n
 leaves_ok n (Ok x) r is h = omega (arith, h, ap (λ v. length v.1.1) (ok_same is))
 leaves_ok n (Err e) r is h = absurd (cc)
 
-meant_less : (quote : ℕ) (over : Bool) (found piece t u : Text) (r : Text × Text) → length u ≤ length t → meant quote over found piece u ≡ Ok (false, r) → length r.1 < length t
-meant_less quote over found piece t [] r h is = absurd (cc)
-meant_less quote over found piece t (b ∷ u) r h is =
-    let left = leaves_ok (length u) (meant quote over found piece (b ∷ u)) (false, r) is (meant_leaves (length u) quote over found piece (b ∷ u) (omega arith)) in
+at_meaning_less : (quote : ℕ) (over : Bool) (found piece t u : Text) (r : Text × Text) → length u ≤ length t → at_meaning quote over found piece u ≡ Ok (false, r) → length r.1 < length t
+at_meaning_less quote over found piece t [] r h is = absurd (cc)
+at_meaning_less quote over found piece t (b ∷ u) r h is =
+    let left = leaves_ok (length u) (at_meaning quote over found piece (b ∷ u)) (false, r) is (at_meaning_leaves (length u) quote over found piece (b ∷ u) (omega arith)) in
     omega arith
 
 pub quoted_shrinks : (quote : ℕ) (over : Bool) → Shrinks (quoted_turn quote over)
 unfolding quoted_turn
 quoted_shrinks quote over s t r is =
-    meant_less quote over s (take (literal_len quote t) t) t (drop (literal_len quote t) t) r (drop_le (literal_len quote t) t) is
+    at_meaning_less quote over s (take (literal_len quote t) t) t (drop (literal_len quote t) t) r (drop_le (literal_len quote t) t) is

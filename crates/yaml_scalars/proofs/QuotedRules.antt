@@ -12,23 +12,23 @@ use Rattle.yaml_text.specs.Line.{is_bad, blank_lines}
 use Rattle.yaml_text.proofs.OutcomeLemmas.{Gives}
 use Rattle.yaml_text.proofs.RuleLemmas.{bad_no_feed}
 use Rattle.yaml_scalars.specs.Turns.{all_turns}
-use Rattle.yaml_scalars.specs.Quoted.{is_literal, literal_len, folded, joined, decoded, escaped, escape, meant, quoted_turn, quoted}
+use Rattle.yaml_scalars.specs.Quoted.{is_literal, literal_len, fold_lines, join_lines, with_escape, at_backslash, escape, at_meaning, quoted_turn, quoted}
 use Rattle.yaml_scalars.specs.Rules as g
 use Rattle.yaml_scalars.proofs.TurnLemmas.{turns_err, turns_last, turns_more}
 use Rattle.yaml_scalars.proofs.QuotedLemmas.{quoted_shrinks}
 
 -- ---- one turn
 
-turn_at : (quote : ℕ) (over : Bool) (found t w : Text) → g.past_piece quote t ≡ w → quoted_turn quote over found t ≡ meant quote over found (g.piece quote t) w
+turn_at : (quote : ℕ) (over : Bool) (found t w : Text) → g.past_piece quote t ≡ w → quoted_turn quote over found t ≡ at_meaning quote over found (g.piece quote t) w
 unfolding quoted_turn
-turn_at quote over found t w h = ap (meant quote over found (g.piece quote t)) h
+turn_at quote over found t w h = ap (at_meaning quote over found (g.piece quote t)) h
 
 turn_bad : (quote : ℕ) (over : Bool) (found t u : Text) (b : ℕ) → g.past_piece quote t ≡ b ∷ u → is_bad b ≡ true → quoted_turn quote over found t ≡ syntax (b ∷ u)
 turn_bad quote over found t u b h k = let s = turn_at quote over found t (b ∷ u) h in let d = bad_no_feed b k in cc
 
 turn_break : (quote : ℕ) (found t u : Text) → g.past_piece quote t ≡ 10 ∷ u
     → quoted_turn quote true found t ≡ Ok (false, ((found ++ g.solid (g.piece quote t)) ++ g.fold u, g.past_fold u))
-unfolding folded
+unfolding fold_lines
 turn_break quote found t u h = turn_at quote true found t (10 ∷ u) h
 
 turn_over : (quote : ℕ) (found t u : Text) → g.past_piece quote t ≡ 10 ∷ u → quoted_turn quote false found t ≡ syntax (10 ∷ u)
@@ -44,21 +44,21 @@ turn_closing over found t u h k = let s = turn_at 39 over found t (39 ∷ u) h i
 turn_double : (over : Bool) (found t u : Text) → g.past_piece 34 t ≡ 34 ∷ u → quoted_turn 34 over found t ≡ Ok (true, (found ++ g.piece 34 t, u))
 turn_double over found t u h = turn_at 34 over found t (34 ∷ u) h
 
-turn_backslash : (over : Bool) (found t u : Text) → g.past_piece 34 t ≡ 92 ∷ u → quoted_turn 34 over found t ≡ escaped over (found ++ g.piece 34 t) (92 ∷ u) u
+turn_backslash : (over : Bool) (found t u : Text) → g.past_piece 34 t ≡ 92 ∷ u → quoted_turn 34 over found t ≡ at_backslash over (found ++ g.piece 34 t) (92 ∷ u) u
 turn_backslash over found t u h = turn_at 34 over found t (92 ∷ u) h
 
 turn_joined : (found t u : Text) → g.past_piece 34 t ≡ 92 ∷ u → slice_index u 0 ≡ 10
     → quoted_turn 34 true found t ≡ Ok (false, ((found ++ g.piece 34 t) ++ replicate (blank_lines (drop 1 u)).0 10, g.past_fold (drop 1 u)))
-unfolding escaped joined
+unfolding at_backslash join_lines
 turn_joined found t u h k = let s = turn_backslash true found t u h in let d = eq-eqb (slice_index u 0) 10 k in cc
 
 turn_not_joined : (found t u : Text) → g.past_piece 34 t ≡ 92 ∷ u → slice_index u 0 ≡ 10 → quoted_turn 34 false found t ≡ syntax (92 ∷ u)
-unfolding escaped
+unfolding at_backslash
 turn_not_joined found t u h k = let s = turn_backslash false found t u h in let d = eq-eqb (slice_index u 0) 10 k in cc
 
 turn_escape : (over : Bool) (found t u : Text) (o : Option (ℕ × Text)) → g.past_piece 34 t ≡ 92 ∷ u → (slice_index u 0 ≡ 10 → ⊥) → escape u ≡ o
-    → quoted_turn 34 over found t ≡ decoded (found ++ g.piece 34 t) (92 ∷ u) o
-unfolding escaped
+    → quoted_turn 34 over found t ≡ with_escape (found ++ g.piece 34 t) (92 ∷ u) o
+unfolding at_backslash
 turn_escape over found t u o h k e = let s = turn_backslash over found t u h in let d = ne_eqb (slice_index u 0) 10 k in cc
 
 -- ---- all turns

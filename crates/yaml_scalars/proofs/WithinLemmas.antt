@@ -11,9 +11,9 @@ use Rattle.yaml_scalars.specs.declared.lines.Ending.{Ending}
 use Rattle.yaml_scalars.specs.declared.lines.Last.TheVariants.{Nothing, Flush, Spaced}
 use Rattle.yaml_scalars.specs.Turns.{Turn, turns_within, all_turns}
 use Rattle.yaml_scalars.specs.Plain.{plain_len, goes_on, with_part, next_part, behind_part, plain_turn, plain}
-use Rattle.yaml_scalars.specs.Quoted.{meant, literal_len, quoted_turn, quoted}
-use Rattle.yaml_scalars.specs.Lines.{Found, empty_lines, between, last_of, line_len, past_break, with_line, ended, spaced_line, line_by, line_at, line_turn, margin, lines_below, style_of, past_style, lines}
-use Rattle.yaml_scalars.proofs.QuotedLemmas.{Leaves, meant_leaves}
+use Rattle.yaml_scalars.specs.Quoted.{at_meaning, literal_len, quoted_turn, quoted}
+use Rattle.yaml_scalars.specs.Lines.{Found, empty_lines, between, last_of, line_len, past_break, with_line, last_turn, spaced_line, line_by_indentation, line_at, line_turn, margin, lines_below, style_of, past_style, lines}
+use Rattle.yaml_scalars.proofs.QuotedLemmas.{Leaves, at_meaning_leaves}
 use Rattle.yaml_scalars.proofs.PlainLemmas.{goes_on_le}
 use Rattle.yaml_scalars.proofs.LinesLemmas.{empty_lines_le}
 
@@ -47,8 +47,8 @@ turn_leaves n (Err e) h = tt
 quoted_turn_leaves : (quote : ℕ) (over : Bool) (n : ℕ) (s t : Text) → length t ≤ n → TurnLeaves n (quoted_turn quote over s t)
 unfolding quoted_turn
 quoted_turn_leaves quote over n s t h =
-    turn_leaves n (meant quote over s (take (literal_len quote t) t) (drop (literal_len quote t) t))
-    (meant_leaves n quote over s (take (literal_len quote t) t) (drop (literal_len quote t) t) (omega (arith, drop_le (literal_len quote t) t)))
+    turn_leaves n (at_meaning quote over s (take (literal_len quote t) t) (drop (literal_len quote t) t))
+    (at_meaning_leaves n quote over s (take (literal_len quote t) t) (drop (literal_len quote t) t) (omega (arith, drop_le (literal_len quote t) t)))
 
 pub quoted_within : (quote : ℕ) (over : Bool) (n : ℕ) (t : Text) → length t ≤ n → StepLeaves n (quoted quote over t)
 unfolding quoted
@@ -103,13 +103,13 @@ spaced_line_leaves n folding most (found, Flush) k start h = with_line_leaves n 
 spaced_line_leaves n folding most (found, Spaced) k start h = with_line_leaves n folding (found, Spaced) k (drop most start) (omega (arith, drop_le most start))
 
 line_by_leaves : (n : ℕ) (folding : Bool) (style : Ending) (least most : ℕ) (found : Found) (k : ℕ) (start inner : Text) → length start ≤ n
-    → TurnLeaves n (line_by folding style least most found k start inner)
+    → TurnLeaves n (line_by_indentation folding style least most found k start inner)
 line_by_leaves n folding style least most found k start [] h = spaced_line_leaves n folding most found k start h
 line_by_leaves n folding style least most found k start (b ∷ t) h =
     chosen_ok (λ (r : Turn Found). length r.1.1 ≤ n) (eqb b 10) (spaced_line folding most found k start)
-    (cond (ltb (spaces start) least) (ended style found k start) (cond (ltb (spaces start) most) (syntax (b ∷ t)) (with_line folding found k (drop most start))))
+    (cond (ltb (spaces start) least) (last_turn style found k start) (cond (ltb (spaces start) most) (syntax (b ∷ t)) (with_line folding found k (drop most start))))
     (spaced_line_leaves n folding most found k start h)
-    (chosen_ok (λ (r : Turn Found). length r.1.1 ≤ n) (ltb (spaces start) least) (ended style found k start)
+    (chosen_ok (λ (r : Turn Found). length r.1.1 ≤ n) (ltb (spaces start) least) (last_turn style found k start)
     (cond (ltb (spaces start) most) (syntax (b ∷ t)) (with_line folding found k (drop most start))) h
     (chosen_ok (λ (r : Turn Found). length r.1.1 ≤ n) (ltb (spaces start) most) (syntax (b ∷ t)) (with_line folding found k (drop most start)) tt
     (with_line_leaves n folding found k (drop most start) (omega (arith, drop_le most start)))))
@@ -117,8 +117,8 @@ line_by_leaves n folding style least most found k start (b ∷ t) h =
 line_at_leaves : (n : ℕ) (folding : Bool) (style : Ending) (least most : ℕ) (found : Found) (lines : ℕ × Text) → length lines.1 ≤ n
     → TurnLeaves n (line_at folding style least most found lines)
 line_at_leaves n folding style least most found lines h =
-    chosen_ok (λ (r : Turn Found). length r.1.1 ≤ n) (eqb (length lines.1) 0) (ended style found lines.0 [])
-    (line_by folding style least most found lines.0 lines.1 (past_spaces lines.1)) (omega arith)
+    chosen_ok (λ (r : Turn Found). length r.1.1 ≤ n) (eqb (length lines.1) 0) (last_turn style found lines.0 [])
+    (line_by_indentation folding style least most found lines.0 lines.1 (past_spaces lines.1)) (omega arith)
     (line_by_leaves n folding style least most found lines.0 lines.1 (past_spaces lines.1) h)
 
 line_turn_leaves : (folding : Bool) (style : Ending) (least most n : ℕ) (s : Found) (t : Text) → length t ≤ n → TurnLeaves n (line_turn folding style least most s t)

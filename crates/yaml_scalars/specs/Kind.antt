@@ -5,6 +5,7 @@ use Rattle.std.specs.Char.{is_ascii_digit, is_ascii_hexdigit}
 use Rattle.dvc_base.specs.declared.node.Node.{Node}
 use Rattle.dvc_base.specs.declared.node.Node.TheVariants as nd
 use Rattle.yaml_text.specs.declared.refusal.Refusal.TheVariants.{TooWide}
+use Rattle.yaml_text.specs.Characters.{digit_zero, small_o, small_x}
 use Rattle.yaml_text.specs.Outcome.{Text, Outcome}
 use Rattle.yaml_scalars.specs.Number.{number, past_sign, is_negative, is_octal_digit, are_all, Parts, parts_of, is_wide}
 
@@ -19,22 +20,22 @@ is_false t = bytes_eq t (codes "false") || bytes_eq t (codes "False") || bytes_e
 
 -- begins with 0 and this letter
 abbrev pub is_based : ℕ → Text → Bool
-is_based sign t = slice_index t 0 == 48 && slice_index t 1 == sign
+is_based sign t = slice_index t 0 == digit_zero && slice_index t 1 == sign
 
 abbrev pub is_octal : Text → Bool
-is_octal t = is_based 111 t && are_all is_octal_digit (drop 2 t)
+is_octal t = is_based small_o t && are_all is_octal_digit (drop 2 t)
 
 abbrev pub is_hexadecimal : Text → Bool
-is_hexadecimal t = is_based 120 t && are_all is_ascii_hexdigit (drop 2 t)
+is_hexadecimal t = is_based small_x t && are_all is_ascii_hexdigit (drop 2 t)
 
 abbrev pub is_decimal_whole : Text → Bool
 is_decimal_whole t = are_all is_ascii_digit (past_sign t)
 
 -- a size with its sign
-abbrev pub signed : Bool → ℕ → ℤ
-signed false n = pos n
-signed true zero = pos zero
-signed true (suc n) = negsuc n
+abbrev pub with_sign : Bool → ℕ → ℤ
+with_sign false n = pos n
+with_sign true zero = pos zero
+with_sign true (suc n) = negsuc n
 
 -- from -(2^127) to 2^127 - 1
 abbrev pub fits_whole : Bool → ℕ → Bool
@@ -42,7 +43,7 @@ fits_whole true n = nat_le n (2 ^ 127)
 fits_whole false n = nat_lt n (2 ^ 127)
 
 abbrev pub whole : ℕ → Text → Bool → ℕ → Outcome Node
-whole left t below size = if fits_whole below size then Ok (nd.Whole (signed below size) t) else Err (TooWide left)
+whole left t below size = if fits_whole below size then Ok (nd.Whole (with_sign below size) t) else Err (TooWide left)
 
 -- whether the text has the parts of a number, and then whether that is too wide
 abbrev pub decimal : ℕ → Text → Option Bool → Outcome Node

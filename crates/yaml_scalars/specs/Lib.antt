@@ -3,7 +3,7 @@ pub mod Plain
 pub mod Quoted
 pub mod Lines
 pub mod Number
-pub mod Seen
+pub mod NumeralParts
 pub mod Kind
 pub mod Rules
 pub mod Cases

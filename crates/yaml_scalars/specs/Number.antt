@@ -5,6 +5,7 @@
 use Rattle.std.specs.Prelude.{ℕ, zero, suc, ◌+◌, ◌-◌, ◌*◌, ◌^◌, Bool, true, false, not, ◌&&◌, ◌||◌, if◌then◌else◌, ◌==◌, nat_lt, nat_le, List, [], ◌∷◌, ◌++◌, length, take, drop, slice_index, Option, Some, None}
 use Rattle.std.specs.Char.{is_ascii_digit, is_ascii_hexdigit}
 use Rattle.std.specs.List.{prefix_len, list_all, fold}
+use Rattle.yaml_text.specs.Characters.{plus, dash, point, digit_zero, digit_seven, capital_e, small_e}
 use Rattle.yaml_text.specs.Outcome.{Text}
 use Rattle.yaml_scalars.specs.Quoted.{digit_value}
 
@@ -15,16 +16,16 @@ abbrev pub number : ℕ → Text → ℕ
 number base = fold (with_base base) 0
 
 abbrev pub past_sign : Text → Text
-past_sign t = if slice_index t 0 == 43 || slice_index t 0 == 45 then drop 1 t else t
+past_sign t = if slice_index t 0 == plus || slice_index t 0 == dash then drop 1 t else t
 
 abbrev pub is_negative : Text → Bool
-is_negative t = slice_index t 0 == 45
+is_negative t = slice_index t 0 == dash
 
 abbrev pub digits_len : Text → ℕ
 digits_len = prefix_len is_ascii_digit
 
 abbrev pub is_octal_digit : ℕ → Bool
-is_octal_digit b = nat_le 48 b && nat_le b 55
+is_octal_digit b = nat_le digit_zero b && nat_le b digit_seven
 
 -- digits of the kind that the test takes, one at least
 abbrev pub are_all : (ℕ → Bool) → Text → Bool
@@ -43,7 +44,7 @@ pub record Parts : Type 0 where
 abbrev pub exponent_of : Text → Text → Text → Option Parts
 exponent_of whole fraction [] = Some (record { whole = whole; fraction = fraction; below = false; exponent = [] })
 exponent_of whole fraction (b ∷ t) =
-    if (b == 101 || b == 69) && are_all is_ascii_digit (past_sign t)
+    if (b == small_e || b == capital_e) && are_all is_ascii_digit (past_sign t)
     then Some (record { whole = whole; fraction = fraction; below = is_negative t; exponent = past_sign t }) else None
 
 -- behind the point
@@ -52,7 +53,7 @@ fraction_of whole t = if digits_len t == 0 then None else exponent_of whole (tak
 
 abbrev pub behind_whole : Text → Text → Option Parts
 behind_whole whole t =
-    if slice_index t 0 == 46 then fraction_of whole (drop 1 t)
+    if slice_index t 0 == point then fraction_of whole (drop 1 t)
     else if length whole == 0 then None
     else exponent_of whole [] t
 
@@ -64,10 +65,10 @@ parts_of t = unsigned_parts (past_sign t)
 
 -- a number without the zeros at its end, and how many those are
 abbrev pub with_digit : ℕ × ℕ → ℕ → ℕ × ℕ
-with_digit n b = if b == 48 then (n.0, n.1 + 1) else (n.0 * 10 ^ (n.1 + 1) + digit_value b, 0)
+with_digit n b = if b == digit_zero then (n.0, n.1 + 1) else (n.0 * 10 ^ (n.1 + 1) + digit_value b, 0)
 
-abbrev pub significant : Text → ℕ × ℕ
-significant = fold with_digit (0, 0)
+abbrev pub significant_part : Text → ℕ × ℕ
+significant_part = fold with_digit (0, 0)
 
 abbrev pub distance : ℕ → ℕ → ℕ
 distance a b = (a - b) + (b - a)
@@ -83,4 +84,4 @@ is_wide_number n p =
     || (nat_lt 0 n.0 && nat_le (10 ^ 30) (canonical_exponent p.below (number 10 p.exponent) n.1 (length p.fraction)))
 
 unfoldable pub is_wide : Parts → Bool
-is_wide p = is_wide_number (significant (p.whole ++ p.fraction)) p
+is_wide p = is_wide_number (significant_part (p.whole ++ p.fraction)) p

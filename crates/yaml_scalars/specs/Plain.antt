@@ -5,26 +5,28 @@
 --                                in block style `least` is the least indentation of such a line
 --     plain flow least t         the scalar's text, its lines folded (6.5), and what is left behind it
 use Rattle.std.specs.Prelude.{ℕ, zero, suc, ◌+◌, Bool, true, false, not, ◌&&◌, ◌||◌, if◌then◌else◌, ◌==◌, nat_lt, List, [], ◌∷◌, ◌++◌, length, take, drop, slice_index, Option, Some, None, Ok}
+use Rattle.yaml_text.specs.Characters.{line_feed, space, exclamation_mark, double_quote, hash, percent, ampersand, single_quote, asterisk, comma, dash, colon, greater_than, question_mark, at_sign, open_bracket, close_bracket, backquote, open_brace, bar, close_brace}
 use Rattle.yaml_text.specs.Outcome.{Text, Outcome, Step, ◌>>=◌, syntax}
-use Rattle.yaml_text.specs.Line.{is_white, is_bad, spaces, past_spaces, past_white, is_marker, checked, blank_lines, breaks}
+use Rattle.yaml_text.specs.Line.{is_white, is_bad, spaces, past_spaces, past_white, is_marker, check_line, blank_lines, breaks}
 use Rattle.yaml_scalars.specs.Turns.{Turn, all_turns}
 
 -- `,` `[` `]` `{` `}`
 abbrev pub is_flow_sign : ℕ → Bool
-is_flow_sign b = b == 44 || b == 91 || b == 93 || b == 123 || b == 125
+is_flow_sign b = b == comma || b == open_bracket || b == close_bracket || b == open_brace || b == close_brace
 
 -- what may follow a `:` that parts a key from its value
-abbrev pub parts : Bool → Text → Bool
-parts flow [] = true
-parts flow (b ∷ t) = is_white b || b == 10 || (flow && is_flow_sign b)
+abbrev pub may_follow_colon : Bool → Text → Bool
+may_follow_colon flow [] = true
+may_follow_colon flow (b ∷ t) = is_white b || b == line_feed || (flow && is_flow_sign b)
 
 abbrev pub is_colon : Bool → Text → Bool
 is_colon flow [] = false
-is_colon flow (b ∷ t) = b == 58 && parts flow t
+is_colon flow (b ∷ t) = b == colon && may_follow_colon flow t
 
 -- `white` tells that white space stands before b
-abbrev pub stops_before : Bool → Bool → ℕ → Text → Bool
-stops_before flow white b t = b == 10 || is_bad b || (white && b == 35) || (b == 58 && parts flow t) || (flow && is_flow_sign b)
+abbrev pub ends_before : Bool → Bool → ℕ → Text → Bool
+ends_before flow white b t =
+    b == line_feed || is_bad b || (white && b == hash) || (b == colon && may_follow_colon flow t) || (flow && is_flow_sign b)
 
 -- one more, where there is any
 abbrev pub and_more : ℕ → ℕ
@@ -34,31 +36,32 @@ and_more (suc n) = suc (suc n)
 abbrev pub plain_len : Bool → Bool → Text → ℕ
 plain_len flow white [] = 0
 plain_len flow white (b ∷ t) =
-    if stops_before flow white b t then 0
+    if ends_before flow white b t then 0
     else if is_white b then and_more (plain_len flow true t)
     else suc (plain_len flow false t)
 
 -- ` , [ ] { } # & * ! | > ' " % @ and the backquote
 abbrev pub is_reserved : ℕ → Bool
 is_reserved b =
-    is_flow_sign b || b == 35 || b == 38 || b == 42 || b == 33 || b == 124 || b == 62 || b == 39 || b == 34 || b == 37 || b == 64 || b == 96
+    is_flow_sign b || b == hash || b == ampersand || b == asterisk || b == exclamation_mark || b == bar || b == greater_than
+    || b == single_quote || b == double_quote || b == percent || b == at_sign || b == backquote
 
 -- a space or the line's end
 abbrev pub is_gap : Text → Bool
 is_gap [] = true
-is_gap (b ∷ t) = b == 32 || b == 10
+is_gap (b ∷ t) = b == space || b == line_feed
 
 abbrev pub begins_plain : Bool → Text → Bool
 begins_plain flow [] = false
 begins_plain flow (b ∷ t) =
-    not (is_reserved b || is_white b || ((b == 45 || b == 63 || b == 58) && is_gap t) || stops_before flow false b t)
+    not (is_reserved b || is_white b || ((b == dash || b == question_mark || b == colon) && is_gap t) || ends_before flow false b t)
 
 -- ---- the lines after the first
 
 -- at the end of the text, or at a comment
-abbrev pub is_over : Text → Bool
-is_over [] = true
-is_over (b ∷ t) = b == 35
+abbrev pub is_end_or_comment : Text → Bool
+is_end_or_comment [] = true
+is_end_or_comment (b ∷ t) = b == hash
 
 abbrev pub part_in_flow : Text → Text → Outcome (Option Text)
 part_in_flow start t = if is_marker start then syntax start else Ok (if plain_len true false t == 0 then None else Some t)
@@ -68,11 +71,11 @@ abbrev pub part_of_block : Text → Outcome (Option Text)
 part_of_block t = if is_colon false (past_white (drop (plain_len false false t) t)) then syntax t else Ok (Some t)
 
 abbrev pub part_in_block : ℕ → Text → Outcome (Option Text)
-part_in_block least start = if nat_lt (spaces start) least then Ok None else (checked start >>= λ s. part_of_block (past_spaces s))
+part_in_block least start = if nat_lt (spaces start) least then Ok None else (check_line start >>= λ s. part_of_block (past_spaces s))
 
 unfoldable pub goes_on : Bool → ℕ → Text → Outcome (Option Text)
 goes_on flow least start =
-    if is_over (past_white start) then Ok None
+    if is_end_or_comment (past_white start) then Ok None
     else if flow then part_in_flow start (past_white start)
     else part_in_block least start
 
@@ -88,7 +91,7 @@ next_part flow least found t lines = goes_on flow least lines.1 >>= λ part. Ok 
 abbrev pub behind_part : Bool → ℕ → Text → Text → Text → Outcome (Turn Text)
 behind_part flow least found t [] = Ok (true, (found, t))
 behind_part flow least found t (b ∷ u) =
-    if b == 10 then next_part flow least found t (blank_lines u)
+    if b == line_feed then next_part flow least found t (blank_lines u)
     else if is_bad b then syntax (b ∷ u)
     else Ok (true, (found, t))
 

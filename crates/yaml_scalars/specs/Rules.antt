@@ -7,13 +7,14 @@
 use Rattle.std.specs.Prelude.{◌≡◌, ◌≢◌, ◌<◌, ◌≤◌, ℕ, Bool, true, false, not, ◌==◌, [], ◌∷◌, ◌++◌, length, take, drop, replicate, slice_index, Option, Some, None, Ok, Err}
 use Rattle.std.specs.Char.{encode_utf8}
 use Rattle.yaml_text.specs.declared.refusal.Refusal.{Refusal}
+use Rattle.yaml_text.specs.Characters.{tab, line_feed, double_quote, single_quote, backslash}
 use Rattle.yaml_text.specs.Outcome.{Text, Outcome, Step, syntax}
 use Rattle.yaml_text.specs.Line.{is_bad, spaces, past_spaces, past_white, is_marker, blank_lines, breaks}
 use Rattle.yaml_text.specs.Rules.{IsRest}
 use Rattle.yaml_scalars.specs.declared.lines.Ending.{Ending}
 use Rattle.yaml_scalars.specs.declared.lines.Last.{Last}
 use Rattle.yaml_scalars.specs.declared.lines.Last.TheVariants.{Nothing}
-use Rattle.yaml_scalars.specs.Plain.{is_colon, is_over, plain_len}
+use Rattle.yaml_scalars.specs.Plain.{is_colon, is_end_or_comment, plain_len}
 use Rattle.yaml_scalars.specs.Quoted.{literal_len, solid_len, escape}
 use Rattle.yaml_scalars.specs.Lines.{margin, empty_lines, between, ending, last_of, line_len, style_of, past_style}
 
@@ -39,70 +40,78 @@ past_fold t = past_white (blank_lines t).1
 
 -- in single quotes (7.3.2)
 pub data IsSingle : Bool → Text → Text → Step Text → Type 0 where
-  unclosed : {over : Bool} {found t : Text} → past_piece 39 t ≡ [] → IsSingle over found t (syntax [])
+  unclosed : {over : Bool} {found t : Text} → past_piece single_quote t ≡ [] → IsSingle over found t (syntax [])
   bad_character : {over : Bool} {found t u : Text} {b : ℕ}
-      → past_piece 39 t ≡ b ∷ u → is_bad b ≡ true → IsSingle over found t (syntax (b ∷ u))
+      → past_piece single_quote t ≡ b ∷ u → is_bad b ≡ true → IsSingle over found t (syntax (b ∷ u))
   line_break : {found t u : Text} {o : Step Text}
-      → past_piece 39 t ≡ 10 ∷ u → IsSingle true ((found ++ solid (piece 39 t)) ++ fold u) (past_fold u) o → IsSingle true found t o
-  over_lines : {found t u : Text} → past_piece 39 t ≡ 10 ∷ u → IsSingle false found t (syntax (10 ∷ u))
+      → past_piece single_quote t ≡ line_feed ∷ u → IsSingle true ((found ++ solid (piece single_quote t)) ++ fold u) (past_fold u) o
+      → IsSingle true found t o
+  over_lines : {found t u : Text} → past_piece single_quote t ≡ line_feed ∷ u → IsSingle false found t (syntax (line_feed ∷ u))
   two_quotes : {over : Bool} {found t u : Text} {o : Step Text}
-      → past_piece 39 t ≡ 39 ∷ u → slice_index u 0 ≡ 39 → IsSingle over ((found ++ piece 39 t) ++ 39 ∷ []) (drop 1 u) o
+      → past_piece single_quote t ≡ single_quote ∷ u → slice_index u 0 ≡ single_quote
+      → IsSingle over ((found ++ piece single_quote t) ++ single_quote ∷ []) (drop 1 u) o
       → IsSingle over found t o
   closing : {over : Bool} {found t u : Text}
-      → past_piece 39 t ≡ 39 ∷ u → slice_index u 0 ≢ 39 → IsSingle over found t (Ok (found ++ piece 39 t, u))
+      → past_piece single_quote t ≡ single_quote ∷ u → slice_index u 0 ≢ single_quote
+      → IsSingle over found t (Ok (found ++ piece single_quote t, u))
 
 -- in double quotes (7.3.1), with escapes (5.7)
 pub data IsDouble : Bool → Text → Text → Step Text → Type 0 where
-  unclosed : {over : Bool} {found t : Text} → past_piece 34 t ≡ [] → IsDouble over found t (syntax [])
+  unclosed : {over : Bool} {found t : Text} → past_piece double_quote t ≡ [] → IsDouble over found t (syntax [])
   bad_character : {over : Bool} {found t u : Text} {b : ℕ}
-      → past_piece 34 t ≡ b ∷ u → is_bad b ≡ true → IsDouble over found t (syntax (b ∷ u))
+      → past_piece double_quote t ≡ b ∷ u → is_bad b ≡ true → IsDouble over found t (syntax (b ∷ u))
   line_break : {found t u : Text} {o : Step Text}
-      → past_piece 34 t ≡ 10 ∷ u → IsDouble true ((found ++ solid (piece 34 t)) ++ fold u) (past_fold u) o → IsDouble true found t o
-  over_lines : {found t u : Text} → past_piece 34 t ≡ 10 ∷ u → IsDouble false found t (syntax (10 ∷ u))
-  closing : {over : Bool} {found t u : Text} → past_piece 34 t ≡ 34 ∷ u → IsDouble over found t (Ok (found ++ piece 34 t, u))
+      → past_piece double_quote t ≡ line_feed ∷ u → IsDouble true ((found ++ solid (piece double_quote t)) ++ fold u) (past_fold u) o
+      → IsDouble true found t o
+  over_lines : {found t u : Text} → past_piece double_quote t ≡ line_feed ∷ u → IsDouble false found t (syntax (line_feed ∷ u))
+  closing : {over : Bool} {found t u : Text}
+      → past_piece double_quote t ≡ double_quote ∷ u → IsDouble over found t (Ok (found ++ piece double_quote t, u))
   -- a backslash before a line break leaves the break out
   escaped_break : {found t u : Text} {o : Step Text}
-      → past_piece 34 t ≡ 92 ∷ u → slice_index u 0 ≡ 10
-      → IsDouble true ((found ++ piece 34 t) ++ replicate (blank_lines (drop 1 u)).0 10) (past_fold (drop 1 u)) o → IsDouble true found t o
-  escape_over_lines : {found t u : Text} → past_piece 34 t ≡ 92 ∷ u → slice_index u 0 ≡ 10 → IsDouble false found t (syntax (92 ∷ u))
+      → past_piece double_quote t ≡ backslash ∷ u → slice_index u 0 ≡ line_feed
+      → IsDouble true ((found ++ piece double_quote t) ++ replicate (blank_lines (drop 1 u)).0 line_feed) (past_fold (drop 1 u)) o
+      → IsDouble true found t o
+  escape_over_lines : {found t u : Text}
+      → past_piece double_quote t ≡ backslash ∷ u → slice_index u 0 ≡ line_feed → IsDouble false found t (syntax (backslash ∷ u))
   escaped : {over : Bool} {found t u : Text} {c : ℕ × Text} {o : Step Text}
-      → past_piece 34 t ≡ 92 ∷ u → slice_index u 0 ≢ 10 → escape u ≡ Some c
-      → IsDouble over ((found ++ piece 34 t) ++ encode_utf8 c.0) c.1 o → IsDouble over found t o
+      → past_piece double_quote t ≡ backslash ∷ u → slice_index u 0 ≢ line_feed → escape u ≡ Some c
+      → IsDouble over ((found ++ piece double_quote t) ++ encode_utf8 c.0) c.1 o → IsDouble over found t o
   bad_escape : {over : Bool} {found t u : Text}
-      → past_piece 34 t ≡ 92 ∷ u → slice_index u 0 ≢ 10 → escape u ≡ None → IsDouble over found t (syntax (92 ∷ u))
+      → past_piece double_quote t ≡ backslash ∷ u → slice_index u 0 ≢ line_feed → escape u ≡ None
+      → IsDouble over found t (syntax (backslash ∷ u))
 
 pub data IsQuoted : Bool → Text → Step Text → Type 0 where
-  single : {over : Bool} {t : Text} {o : Step Text} → slice_index t 0 ≡ 39 → IsSingle over [] (drop 1 t) o → IsQuoted over t o
-  double : {over : Bool} {t : Text} {o : Step Text} → slice_index t 0 ≡ 34 → IsDouble over [] (drop 1 t) o → IsQuoted over t o
+  single : {over : Bool} {t : Text} {o : Step Text} → slice_index t 0 ≡ single_quote → IsSingle over [] (drop 1 t) o → IsQuoted over t o
+  double : {over : Bool} {t : Text} {o : Step Text} → slice_index t 0 ≡ double_quote → IsDouble over [] (drop 1 t) o → IsQuoted over t o
 
 -- ---- plain scalars
 
 -- the scalar's part on the line at `start`, or nothing where the scalar ended before that line
 pub data IsPart : Bool → ℕ → Text → Outcome (Option Text) → Type 0 where
-  over : {flow : Bool} {least : ℕ} {start : Text} → is_over (past_white start) ≡ true → IsPart flow least start (Ok None)
+  over : {flow : Bool} {least : ℕ} {start : Text} → is_end_or_comment (past_white start) ≡ true → IsPart flow least start (Ok None)
   marker_in_flow : {least : ℕ} {start : Text}
-      → is_over (past_white start) ≡ false → is_marker start ≡ true → IsPart true least start (syntax start)
+      → is_end_or_comment (past_white start) ≡ false → is_marker start ≡ true → IsPart true least start (syntax start)
   no_part : {least : ℕ} {start : Text}
-      → is_over (past_white start) ≡ false → is_marker start ≡ false → plain_len true false (past_white start) ≡ 0
+      → is_end_or_comment (past_white start) ≡ false → is_marker start ≡ false → plain_len true false (past_white start) ≡ 0
       → IsPart true least start (Ok None)
   part_in_flow : {least : ℕ} {start : Text}
-      → is_over (past_white start) ≡ false → is_marker start ≡ false → plain_len true false (past_white start) ≢ 0
+      → is_end_or_comment (past_white start) ≡ false → is_marker start ≡ false → plain_len true false (past_white start) ≢ 0
       → IsPart true least start (Ok (Some (past_white start)))
   less_indented : {least : ℕ} {start : Text}
-      → is_over (past_white start) ≡ false → spaces start < least → IsPart false least start (Ok None)
-  tab : {least : ℕ} {start : Text}
-      → is_over (past_white start) ≡ false → least ≤ spaces start → slice_index (past_spaces start) 0 ≡ 9
+      → is_end_or_comment (past_white start) ≡ false → spaces start < least → IsPart false least start (Ok None)
+  a_tab : {least : ℕ} {start : Text}
+      → is_end_or_comment (past_white start) ≡ false → least ≤ spaces start → slice_index (past_spaces start) 0 ≡ tab
       → IsPart false least start (syntax (past_spaces start))
   marker : {least : ℕ} {start : Text}
-      → is_over (past_white start) ≡ false → least ≤ spaces start → is_marker start ≡ true
+      → is_end_or_comment (past_white start) ≡ false → least ≤ spaces start → is_marker start ≡ true
       → IsPart false least start (syntax (past_spaces start))
   -- a key can't stand in a line that goes on with the scalar
   key : {least : ℕ} {start : Text}
-      → is_over (past_white start) ≡ false → least ≤ spaces start → slice_index (past_spaces start) 0 ≢ 9 → is_marker start ≡ false
+      → is_end_or_comment (past_white start) ≡ false → least ≤ spaces start → slice_index (past_spaces start) 0 ≢ tab → is_marker start ≡ false
       → is_colon false (past_white (drop (plain_len false false (past_spaces start)) (past_spaces start))) ≡ true
       → IsPart false least start (syntax (past_spaces start))
   part_in_block : {least : ℕ} {start : Text}
-      → is_over (past_white start) ≡ false → least ≤ spaces start → slice_index (past_spaces start) 0 ≢ 9 → is_marker start ≡ false
+      → is_end_or_comment (past_white start) ≡ false → least ≤ spaces start → slice_index (past_spaces start) 0 ≢ tab → is_marker start ≡ false
       → is_colon false (past_white (drop (plain_len false false (past_spaces start)) (past_spaces start))) ≡ false
       → IsPart false least start (Ok (Some (past_spaces start)))
 
@@ -112,14 +121,14 @@ pub data IsPlainOn : Bool → ℕ → Text → Text → Step Text → Type 0 whe
   bad_character : {flow : Bool} {least : ℕ} {found t u : Text} {b : ℕ}
       → past_white t ≡ b ∷ u → is_bad b ≡ true → IsPlainOn flow least found t (syntax (b ∷ u))
   -- a comment, a `:` or a sign of a flow form
-  stopped : {flow : Bool} {least : ℕ} {found t u : Text} {b : ℕ}
-      → past_white t ≡ b ∷ u → b ≢ 10 → is_bad b ≡ false → IsPlainOn flow least found t (Ok (found, t))
+  other_sign : {flow : Bool} {least : ℕ} {found t u : Text} {b : ℕ}
+      → past_white t ≡ b ∷ u → b ≢ line_feed → is_bad b ≡ false → IsPlainOn flow least found t (Ok (found, t))
   bad_line : {flow : Bool} {least : ℕ} {found t u : Text} {e : Refusal}
-      → past_white t ≡ 10 ∷ u → IsPart flow least (blank_lines u).1 (Err e) → IsPlainOn flow least found t (Err e)
+      → past_white t ≡ line_feed ∷ u → IsPart flow least (blank_lines u).1 (Err e) → IsPlainOn flow least found t (Err e)
   no_more : {flow : Bool} {least : ℕ} {found t u : Text}
-      → past_white t ≡ 10 ∷ u → IsPart flow least (blank_lines u).1 (Ok None) → IsPlainOn flow least found t (Ok (found, t))
+      → past_white t ≡ line_feed ∷ u → IsPart flow least (blank_lines u).1 (Ok None) → IsPlainOn flow least found t (Ok (found, t))
   goes_on : {flow : Bool} {least : ℕ} {found t u v : Text} {o : Step Text}
-      → past_white t ≡ 10 ∷ u → IsPart flow least (blank_lines u).1 (Ok (Some v))
+      → past_white t ≡ line_feed ∷ u → IsPart flow least (blank_lines u).1 (Ok (Some v))
       → IsPlainOn flow least (found ++ fold u ++ take (plain_len flow false v) v) (drop (plain_len flow false v) v) o
       → IsPlainOn flow least found t o
 
@@ -130,7 +139,7 @@ IsPlain flow least t o = IsPlainOn flow least (take (plain_len flow false t) t) 
 
 abbrev pub has_character : Text → Bool
 has_character [] = false
-has_character (b ∷ t) = not (b == 10)
+has_character (b ∷ t) = not (b == line_feed)
 
 abbrev pub is_filled : Text → Bool
 is_filled start = has_character (past_spaces start)
@@ -153,15 +162,15 @@ pub data IsLine : ℕ → ℕ → Last → Text → Outcome (Option Text) → Ty
 -- behind a line's characters (5.4)
 pub data IsBreak : Text → Outcome Text → Type 0 where
   at_end : IsBreak [] (Ok [])
-  line_feed : {t : Text} → IsBreak (10 ∷ t) (Ok t)
-  bad_character : {b : ℕ} {t : Text} → b ≢ 10 → IsBreak (b ∷ t) (syntax (b ∷ t))
+  at_feed : {t : Text} → IsBreak (line_feed ∷ t) (Ok t)
+  bad_character : {b : ℕ} {t : Text} → b ≢ line_feed → IsBreak (b ∷ t) (syntax (b ∷ t))
 
 -- the lines from t on, where the last line that isn't empty begins as `last` says
 pub data IsContent : Bool → Ending → ℕ → ℕ → Text → Last → Text → Step Text → Type 0 where
   bad_line : {folding : Bool} {style : Ending} {least most : ℕ} {found : Text} {last : Last} {t : Text} {e : Refusal}
       → IsLine least most last (empty_lines most t).1 (Err e) → IsContent folding style least most found last t (Err e)
   -- the lines at the end are as the header says (8.1.1.2)
-  ended : {folding : Bool} {style : Ending} {least most : ℕ} {found : Text} {last : Last} {t : Text}
+  last_lines : {folding : Bool} {style : Ending} {least most : ℕ} {found : Text} {last : Last} {t : Text}
       → IsLine least most last (empty_lines most t).1 (Ok None)
       → IsContent folding style least most found last t (Ok (found ++ ending style last (empty_lines most t).0, (empty_lines most t).1))
   bad_character_in_line : {folding : Bool} {style : Ending} {least most : ℕ} {found : Text} {last : Last} {t line : Text} {e : Refusal}

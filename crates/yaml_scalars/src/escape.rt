@@ -1,20 +1,23 @@
 // Escapes of double quotes.
 ghost use Rattle.std.specs.Prelude.{◌≡◌, ◌<◌, ◌≤◌, ◌^◌, length, option_map, IfSome};
+ghost use Rattle.yaml_text.specs.Characters.{digit_zero, first_high_surrogate, first_low_surrogate};
 ghost use Rattle.yaml_scalars.specs.Quoted as spec;
 
-use yaml_text::{byte, cut};
+use yaml_text::{
+    BEHIND_SURROGATES, CAPITAL_OFFSET, FIRST_HIGH_SURROGATE, FIRST_LOW_SURROGATE,
+    FIRST_SUPPLEMENTARY, SMALL_OFFSET, byte, split_first,
+};
 
 fn digit_value(digit: u8) -> u32
-    requires { (48 ≤ digit) × (digit < 128) }
+    requires { (digit_zero ≤ digit) × (digit < 128) }
     ensures { result ≡ spec.digit_value digit }
 {
-    let digit = u32::from(digit);
-    if digit <= 57 {
-        digit - 48
-    } else if digit <= 70 {
-        digit.saturating_sub(55)
+    if digit <= b'9' {
+        u32::from(digit - b'0')
+    } else if digit <= b'F' {
+        u32::from(digit.saturating_sub(CAPITAL_OFFSET))
     } else {
-        digit.saturating_sub(87)
+        u32::from(digit.saturating_sub(SMALL_OFFSET))
     }
 }
 
@@ -23,7 +26,7 @@ fn hex_digit(text: &[u8]) -> Option<(u32, &[u8])>
     ensures small { IfSome result (λ r. r.0 < 16) }
     ensures within { IfSome result (λ r. length r.1.now ≤ length text.now) }
 {
-    match cut(text) {
+    match split_first(text) {
         None => None,
         Some((first, rest)) => {
             if first.is_ascii_hexdigit() {
@@ -77,43 +80,52 @@ fn character(code: u32, rest: &[u8]) -> Option<(char, &[u8])>
     }
 }
 
-fn with_low(high: u32, low: u32, rest: &[u8]) -> Option<(char, &[u8])>
-    requires { (55296 ≤ high) × (high < 56320) }
-    ensures value { option_map (λ r. (r.0, r.1.now)) result ≡ spec.with_low high (low, rest.now) }
+// The character that a high and a low surrogate stand for.
+fn pair_character(high: u32, low: u32, rest: &[u8]) -> Option<(char, &[u8])>
+    requires { (first_high_surrogate ≤ high) × (high < first_low_surrogate) }
+    ensures value { option_map (λ r. (r.0, r.1.now)) result ≡ spec.pair_character high (low, rest.now) }
     ensures within { IfSome result (λ r. length r.1.now ≤ length rest.now) }
 {
-    if 56320 <= low && low < 57344 {
-        character(65536 + (high - 55296) * 1024 + (low - 56320), rest)
+    if FIRST_LOW_SURROGATE <= low && low < BEHIND_SURROGATES {
+        character(
+            FIRST_SUPPLEMENTARY
+                + (high - FIRST_HIGH_SURROGATE) * 1024
+                + (low - FIRST_LOW_SURROGATE),
+            rest,
+        )
     } else {
         None
     }
 }
 
-#[tactic(auto, unfolding(crate::specs::Quoted::pair))]
-fn pair(high: u32, text: &[u8]) -> Option<(char, &[u8])>
-    requires { (55296 ≤ high) × (high < 56320) }
-    ensures value { option_map (λ r. (r.0, r.1.now)) result ≡ spec.pair high text.now }
+// Behind a high surrogate: the escape of a low one, and the character that both stand for.
+#[tactic(auto, unfolding(crate::specs::Quoted::surrogate_pair))]
+fn surrogate_pair(high: u32, text: &[u8]) -> Option<(char, &[u8])>
+    requires { (first_high_surrogate ≤ high) × (high < first_low_surrogate) }
+    ensures value { option_map (λ r. (r.0, r.1.now)) result ≡ spec.surrogate_pair high text.now }
     ensures within { IfSome result (λ r. length r.1.now ≤ length text.now) }
 {
     if byte(text, 0) == b'\\' && byte(text, 1) == b'u' {
         let (low, rest) = hex_4(text.split_at(2).1)?;
-        with_low(high, low, rest)
+        pair_character(high, low, rest)
     } else {
         None
     }
 }
 
-fn short(code: u32, rest: &[u8]) -> Option<(char, &[u8])>
-    ensures value { option_map (λ r. (r.0, r.1.now)) result ≡ spec.short (code, rest.now) }
+// The character of a unit of UTF-16, which a number of four digits is. A high surrogate takes the low one behind it with it.
+fn unit_character(code: u32, rest: &[u8]) -> Option<(char, &[u8])>
+    ensures value { option_map (λ r. (r.0, r.1.now)) result ≡ spec.unit_character (code, rest.now) }
     ensures within { IfSome result (λ r. length r.1.now ≤ length rest.now) }
 {
-    if 55296 <= code && code < 56320 {
-        pair(code, rest)
+    if FIRST_HIGH_SURROGATE <= code && code < FIRST_LOW_SURROGATE {
+        surrogate_pair(code, rest)
     } else {
         character(code, rest)
     }
 }
 
+// The character of an escape of one letter.
 fn letter(byte: u8) -> Option<char>
     ensures { result ≡ spec.letter byte }
 {
@@ -150,7 +162,7 @@ fn escape_by(first: u8, rest: &[u8]) -> Option<(char, &[u8])>
         }
         b'u' => {
             let (code, rest) = hex_4(rest)?;
-            short(code, rest)
+            unit_character(code, rest)
         }
         b'U' => {
             let (code, rest) = hex_8(rest)?;
@@ -166,7 +178,7 @@ pub fn escape(text: &[u8]) -> Option<(char, &[u8])>
     ensures value { option_map (λ r. (r.0, r.1.now)) result ≡ spec.escape text.now }
     ensures within { IfSome result (λ r. length r.1.now ≤ length text.now) }
 {
-    match cut(text) {
+    match split_first(text) {
         None => None,
         Some((first, rest)) => escape_by(first, rest),
     }

@@ -8,7 +8,7 @@ ghost use Rattle.yaml_scalars.specs.Number as numbers;
 
 use crate::number::{are_digits, is_wide, number, parts_of, past_sign};
 use dvc_base::{Node, Text};
-use yaml_text::{Refusal, Stop, behind, byte};
+use yaml_text::{Halt, Refusal, behind, byte};
 
 fn is_word(text: &[u8], word: &[u8]) -> bool
     ensures { result ≡ bytes_eq text.now word.now }
@@ -47,7 +47,7 @@ fn is_based(sign: u8, text: &[u8]) -> bool
 fn has_octal_alone(text: &[u8]) -> bool
     ensures { result ≡ list_all numbers.is_octal_digit text.now }
 {
-    text.iter().all(|digit| 48 <= *digit && *digit <= 55)
+    text.iter().all(|digit| b'0' <= *digit && *digit <= b'7')
 }
 
 fn is_octal(text: &[u8]) -> bool
@@ -80,9 +80,10 @@ fn fits_whole(below: bool, size: u128) -> bool
     }
 }
 
-fn signed(below: bool, size: u128) -> i128
+// A size with its sign.
+fn with_sign(below: bool, size: u128) -> i128
     requires { spec.fits_whole below size ≡ true }
-    ensures { result ≡ spec.signed below size }
+    ensures { result ≡ spec.with_sign below size }
 {
     if !below {
         size as i128
@@ -93,23 +94,23 @@ fn signed(below: bool, size: u128) -> i128
     }
 }
 
-fn whole(left: usize, text: Text, below: bool, size: u128) -> Result<Node, Stop>
+fn whole(left: usize, text: Text, below: bool, size: u128) -> Result<Node, Halt>
     ensures exact { Reads (λ node. node) result (spec.whole left text below size) }
     ensures refused { IfErr result IsRefused }
 {
     if fits_whole(below, size) {
         Ok(Node::Whole {
-            value: signed(below, size),
+            value: with_sign(below, size),
             text,
         })
     } else {
-        Err(Stop::Refused(Refusal::TooWide(left)))
+        Err(Halt::Refused(Refusal::TooWide(left)))
     }
 }
 
-/// A whole number of digits alone, whose size stands for itself only up to 2^128 - 1.
+// A whole number of digits alone, whose size stands for itself only up to 2^128 - 1.
 #[tactic(auto, using(crate::proofs::KindLemmas::whole_cut))]
-fn decimal_whole(left: usize, text: Text) -> Result<Node, Stop>
+fn decimal_whole(left: usize, text: Text) -> Result<Node, Halt>
     ensures exact { Reads (λ node. node) result (spec.whole left text (numbers.is_negative text) (numbers.number 10 (numbers.past_sign text))) }
     ensures refused { IfErr result IsRefused }
 {
@@ -120,7 +121,7 @@ fn decimal_whole(left: usize, text: Text) -> Result<Node, Stop>
 }
 
 #[tactic(auto, using(crate::proofs::KindLemmas::whole_cut))]
-fn based_whole(left: usize, text: Text, base: u8) -> Result<Node, Stop>
+fn based_whole(left: usize, text: Text, base: u8) -> Result<Node, Halt>
     requires { 1 ≤ base }
     ensures exact { Reads (λ node. node) result (spec.whole left text false (numbers.number base (drop 2 text))) }
     ensures refused { IfErr result IsRefused }
@@ -129,7 +130,7 @@ fn based_whole(left: usize, text: Text, base: u8) -> Result<Node, Stop>
     whole(left, text, false, size)
 }
 
-fn decimal(left: usize, text: Text) -> Result<Node, Stop>
+fn decimal(left: usize, text: Text) -> Result<Node, Halt>
     ensures exact { Reads (λ node. node) result (spec.decimal left text (option_map numbers.is_wide (numbers.parts_of text))) }
     ensures refused { IfErr result IsRefused }
 {
@@ -137,12 +138,12 @@ fn decimal(left: usize, text: Text) -> Result<Node, Stop>
     let wide = parts_of(text.as_str().as_bytes()).map(|numeral| is_wide(&numeral));
     match wide {
         None => Ok(Node::Text(text)),
-        Some(true) => Err(Stop::Refused(Refusal::TooWide(left))),
+        Some(true) => Err(Halt::Refused(Refusal::TooWide(left))),
         Some(false) => Ok(Node::Decimal { text }),
     }
 }
 
-fn numeral(left: usize, text: Text) -> Result<Node, Stop>
+fn numeral(left: usize, text: Text) -> Result<Node, Halt>
     ensures exact { Reads (λ node. node) result (spec.numeral left text) }
     ensures refused { IfErr result IsRefused }
 {
@@ -160,7 +161,7 @@ fn numeral(left: usize, text: Text) -> Result<Node, Stop>
 
 /// What a plain scalar of this text stands for. A number that is too wide is refused with `left` bytes left.
 #[tactic(auto, unfolding(crate::specs::Kind::scalar))]
-pub fn scalar(left: usize, text: Text) -> Result<Node, Stop>
+pub fn scalar(left: usize, text: Text) -> Result<Node, Halt>
     ensures exact { Reads (λ node. node) result (spec.scalar left text) }
     ensures refused { IfErr result IsRefused }
 {

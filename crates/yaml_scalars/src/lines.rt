@@ -1,5 +1,6 @@
 // Block scalars.
 ghost use Rattle.std.specs.Prelude.{◌≡◌, ◌<◌, ◌≤◌, ◌+◌, ◌++◌, false, true, length, replicate, IfOk, IfErr, ◌-◌, ◌^◌, ◌⊎◌};
+ghost use Rattle.yaml_text.specs.Characters.{line_feed};
 ghost use Rattle.yaml_text.specs.Outcome.{IsRefused, Reads};
 ghost use Rattle.yaml_text.specs.Line.{past_spaces};
 ghost use Rattle.yaml_scalars.specs.Lines as spec;
@@ -8,7 +9,8 @@ use crate::plain::{push_breaks, push_lines};
 use dvc_base::Text;
 use std::alloc::Global;
 use yaml_text::{
-    Stop, behind, byte, cut, is_bad, is_white, past_spaces, rest_of_line, spaces, syntax, text_of,
+    Halt, behind, byte, is_bad, is_white, past_spaces, rest_of_line, spaces, split_first, syntax,
+    text_of,
 };
 
 /// What becomes of the line feeds at a block scalar's end.
@@ -27,9 +29,9 @@ pub enum Last {
     Spaced,
 }
 
-/// The text from the first line on that has a character other than a space.
-fn filled(mut text: &[u8]) -> &[u8]
-    ensures value { result.now ≡ spec.filled_from text.entry.now text.entry.now }
+// The text from the first line on that has a character other than a space.
+fn filled_line(mut text: &[u8]) -> &[u8]
+    ensures value { result.now ≡ spec.filled_line_from text.entry.now text.entry.now }
     ensures within { length result.now ≤ length text.entry.now }
 {
     let mut start = text;
@@ -44,12 +46,12 @@ fn filled(mut text: &[u8]) -> &[u8]
     text
 }
 
-/// How many spaces are taken from each line.
+// How many spaces are taken from each line.
 #[tactic(auto, unfolding(crate::specs::Lines::margin))]
 fn margin(least: usize, text: &[u8]) -> usize
     ensures { result ≡ spec.margin least text.now }
 {
-    margin_by(least, text.len(), filled(text))
+    margin_by(least, text.len(), filled_line(text))
 }
 
 fn margin_by(least: usize, most: usize, first: &[u8]) -> usize
@@ -68,7 +70,7 @@ fn margin_by(least: usize, most: usize, first: &[u8]) -> usize
     }
 }
 
-/// How many empty lines there are, of at most `most` spaces alone, and the text behind them.
+// How many empty lines there are, of at most `most` spaces alone, and the text behind them.
 #[tactic(auto, unfolding(crate::specs::Lines::empty_lines))]
 fn empty_lines(most: usize, mut text: &[u8]) -> (usize, &[u8])
     ensures value { (result.0, result.1.now) ≡ spec.empty_lines most text.entry.now }
@@ -95,7 +97,7 @@ fn empty_lines(most: usize, mut text: &[u8]) -> (usize, &[u8])
     last_empty(most, count, indentation, start, text)
 }
 
-/// At the text's end: a last line of few spaces is one more empty line.
+// At the text's end: a last line of few spaces is one more empty line.
 fn last_empty<'a>(
     most: usize,
     count: usize,
@@ -117,25 +119,25 @@ fn last_empty<'a>(
     }
 }
 
-/// Adds one line feed more than this many.
-fn push_one_more(found: &mut Vec<u8>, count: usize) -> Result<(), Stop>
-    ensures ok { IfOk result (λ _. found.new.items ≡ found.old.items ++ replicate (count + 1) 10) }
-    ensures err { IfErr result (λ stop. stop ≡ Stop.NoMemory) }
+// Adds one line feed more than this many.
+fn push_one_more(found: &mut Vec<u8>, count: usize) -> Result<(), Halt>
+    ensures ok { IfOk result (λ _. found.new.items ≡ found.old.items ++ replicate (count + 1) line_feed) }
+    ensures err { IfErr result (λ halt. halt ≡ Halt.NoMemory) }
 {
     found.push(b'\n')?;
     push_lines(found, count)
 }
 
-/// Adds what stands between two lines with this many empty ones between them.
+// Adds what stands between two lines with this many empty ones between them.
 fn push_between(
     found: &mut Vec<u8>,
     folding: bool,
     last: Last,
     next: Last,
     count: usize,
-) -> Result<(), Stop>
+) -> Result<(), Halt>
     ensures ok { IfOk result (λ _. found.new.items ≡ found.old.items ++ spec.between folding last next count) }
-    ensures err { IfErr result (λ stop. stop ≡ Stop.NoMemory) }
+    ensures err { IfErr result (λ halt. halt ≡ Halt.NoMemory) }
 {
     match last {
         Last::Nothing => push_lines(found, count),
@@ -153,10 +155,10 @@ fn push_between(
     }
 }
 
-/// Adds what this many empty lines at the end give.
-fn push_ending(found: &mut Vec<u8>, style: Ending, last: Last, count: usize) -> Result<(), Stop>
+// Adds what this many empty lines at the end give.
+fn push_ending(found: &mut Vec<u8>, style: Ending, last: Last, count: usize) -> Result<(), Halt>
     ensures ok { IfOk result (λ _. found.new.items ≡ found.old.items ++ spec.ending style last count) }
-    ensures err { IfErr result (λ stop. stop ≡ Stop.NoMemory) }
+    ensures err { IfErr result (λ halt. halt ≡ Halt.NoMemory) }
 {
     match style {
         Ending::Strip => Ok(()),
@@ -192,14 +194,14 @@ fn line_len(text: &[u8]) -> usize
     len
 }
 
-/// Behind a line's characters: its line feed, or the end.
-fn past_break(text: &[u8]) -> Result<&[u8], Stop>
+// Behind a line's characters: its line feed, or the end.
+fn past_break(text: &[u8]) -> Result<&[u8], Halt>
     ensures exact { Reads (λ rest. rest.now) result (spec.past_break text.now) }
     ensures within { IfOk result (λ rest. length rest.now ≤ length text.now) }
     ensures shorter { IfOk result (λ rest. 0 < length text.now → length rest.now < length text.now) }
     ensures refused { IfErr result IsRefused }
 {
-    match cut(text) {
+    match split_first(text) {
         None => Ok(text),
         Some((first, rest)) => {
             if first == b'\n' {
@@ -211,7 +213,7 @@ fn past_break(text: &[u8]) -> Result<&[u8], Stop>
     }
 }
 
-/// A line that isn't empty, without its indentation.
+// A line that isn't empty, without its indentation.
 #[tactic(auto, unfolding(crate::specs::Lines::with_line))]
 fn with_line<'a>(
     folding: bool,
@@ -219,7 +221,7 @@ fn with_line<'a>(
     last: Last,
     count: usize,
     line: &'a [u8],
-) -> Result<(bool, Last, &'a [u8]), Stop>
+) -> Result<(bool, Last, &'a [u8]), Halt>
     ensures exact { Reads (λ r. (r.0, ((found.new.items, r.1), r.2.now))) result (spec.with_line folding (found.old.items, last) count line.now) }
     ensures within { IfOk result (λ r. length r.2.now ≤ length line.now) }
     ensures shorter { IfOk result (λ r. 0 < length line.now → length r.2.now < length line.now) }
@@ -232,21 +234,22 @@ fn with_line<'a>(
     Ok((false, next, rest))
 }
 
-fn ended<'a>(
+// The last turn: what the empty lines at the end give.
+fn last_turn<'a>(
     style: Ending,
     found: &mut Vec<u8>,
     last: Last,
     count: usize,
     text: &'a [u8],
-) -> Result<(bool, Last, &'a [u8]), Stop>
-    ensures exact { Reads (λ r. (r.0, ((found.new.items, r.1), r.2.now))) result (spec.ended style (found.old.items, last) count text.now) }
+) -> Result<(bool, Last, &'a [u8]), Halt>
+    ensures exact { Reads (λ r. (r.0, ((found.new.items, r.1), r.2.now))) result (spec.last_turn style (found.old.items, last) count text.now) }
     ensures within { IfOk result (λ r. (r.0 ≡ true) × (r.2.now ≡ text.now)) }
 {
     push_ending(found, style, last, count)?;
     Ok((true, last, text))
 }
 
-/// A line of more spaces than the margin alone, which no line with another character may follow.
+// A line of more spaces than the margin alone, which no line with another character may follow.
 fn spaced_line<'a>(
     folding: bool,
     most: usize,
@@ -254,7 +257,7 @@ fn spaced_line<'a>(
     last: Last,
     count: usize,
     start: &'a [u8],
-) -> Result<(bool, Last, &'a [u8]), Stop>
+) -> Result<(bool, Last, &'a [u8]), Halt>
     requires { 0 < length start.now }
     ensures exact { Reads (λ r. (r.0, ((found.new.items, r.1), r.2.now))) result (spec.spaced_line folding most (found.old.items, last) count start.now) }
     ensures shorter { IfOk result (λ r. length r.2.now < length start.now) }
@@ -265,8 +268,8 @@ fn spaced_line<'a>(
     }
 }
 
-/// A line that isn't empty, at its start.
-fn line_by<'a>(
+// A line that isn't empty, at its start: how deep it is decides.
+fn line_by_indentation<'a>(
     folding: bool,
     style: Ending,
     least: usize,
@@ -275,21 +278,21 @@ fn line_by<'a>(
     last: Last,
     count: usize,
     start: &'a [u8],
-) -> Result<(bool, Last, &'a [u8]), Stop>
+) -> Result<(bool, Last, &'a [u8]), Halt>
     requires { 0 < length start.now }
-    ensures exact { Reads (λ r. (r.0, ((found.new.items, r.1), r.2.now))) result (spec.line_by folding style least most (found.old.items, last) count start.now (past_spaces start.now)) }
+    ensures exact { Reads (λ r. (r.0, ((found.new.items, r.1), r.2.now))) result (spec.line_by_indentation folding style least most (found.old.items, last) count start.now (past_spaces start.now)) }
     ensures within { IfOk result (λ r. length r.2.now ≤ length start.now) }
     ensures shorter { IfOk result (λ r. r.0 ≡ false → length r.2.now < length start.now) }
 {
     let inner = past_spaces(start);
     let indentation = spaces(start);
-    match cut(inner) {
+    match split_first(inner) {
         None => spaced_line(folding, most, found, last, count, start),
         Some((first, _)) => {
             if first == b'\n' {
                 spaced_line(folding, most, found, last, count, start)
             } else if indentation < least {
-                ended(style, found, last, count, start)
+                last_turn(style, found, last, count, start)
             } else if indentation < most {
                 Err(syntax(inner))
             } else {
@@ -299,7 +302,7 @@ fn line_by<'a>(
     }
 }
 
-/// One turn: the empty lines that follow, and the line behind them.
+// One turn: the empty lines that follow, and the line behind them.
 #[tactic(auto, unfolding(crate::specs::Lines::line_turn))]
 fn line_turn<'a>(
     folding: bool,
@@ -309,20 +312,20 @@ fn line_turn<'a>(
     found: &mut Vec<u8>,
     last: Last,
     text: &'a [u8],
-) -> Result<(bool, Last, &'a [u8]), Stop>
+) -> Result<(bool, Last, &'a [u8]), Halt>
     ensures exact { Reads (λ r. (r.0, ((found.new.items, r.1), r.2.now))) result (spec.line_turn folding style least most (found.old.items, last) text.now) }
     ensures within { IfOk result (λ r. length r.2.now ≤ length text.now) }
     ensures shorter { IfOk result (λ r. r.0 ≡ false → length r.2.now < length text.now) }
 {
     let (count, start) = empty_lines(most, text);
     if start.len() == 0 {
-        ended(style, found, last, count, start)
+        last_turn(style, found, last, count, start)
     } else {
-        line_by(folding, style, least, most, found, last, count, start)
+        line_by_indentation(folding, style, least, most, found, last, count, start)
     }
 }
 
-/// The lines below the header.
+// The lines below the header.
 #[tactic(auto, unfolding(crate::specs::Lines::lines_below))]
 fn lines_below(
     alloc: Global,
@@ -330,7 +333,7 @@ fn lines_below(
     style: Ending,
     least: usize,
     text: &[u8],
-) -> Result<(Text, &[u8]), Stop>
+) -> Result<(Text, &[u8]), Halt>
     ensures exact { Reads (λ r. (r.0, r.1.now)) result (spec.lines_below folding style least text.now) }
     ensures within { IfOk result (λ r. length r.1.now ≤ length text.now) }
 {
@@ -376,7 +379,7 @@ pub fn block_scalar(
     folding: bool,
     least: usize,
     text: &[u8],
-) -> Result<(Text, &[u8]), Stop>
+) -> Result<(Text, &[u8]), Halt>
     ensures exact { Reads (λ r. (r.0, r.1.now)) result (spec.lines folding least text.now) }
     ensures within { IfOk result (λ r. length r.1.now ≤ length text.now) }
 {

@@ -4,14 +4,14 @@ ghost use Rattle.std.specs.Char.{is_ascii_digit};
 ghost use Rattle.std.specs.List.{fold, list_all};
 ghost use Rattle.yaml_scalars.specs.Number as spec;
 ghost use Rattle.yaml_scalars.specs.Quoted.{digit_value};
-ghost use Rattle.yaml_scalars.specs.Seen.{seen, IsCut};
+ghost use Rattle.yaml_scalars.specs.NumeralParts.{as_parts, IsSameToLimit};
 
-use yaml_text::{behind, byte, cut};
+use yaml_text::{CAPITAL_OFFSET, SMALL_OFFSET, behind, byte, split_first};
 
-/// 10 ^ 30, the first exponent that is too wide.
+// 10 ^ 30, the first exponent that is too wide.
 const WIDE_EXPONENT: u128 = 1_000_000_000_000_000_000_000_000_000_000;
 
-/// 2 ^ 127, the greatest number without zeros at its ends.
+// 2 ^ 127, the greatest number without zeros at its ends.
 const WIDEST: u128 = 1 << 127;
 
 /// The parts of a number: the digits before and behind the point, and those of the exponent.
@@ -27,13 +27,12 @@ pub struct Numeral<'a> {
 fn value_of(digit: u8) -> u128
     ensures { result ≡ digit_value digit }
 {
-    let digit = u128::from(digit);
-    if digit <= 57 {
-        digit.saturating_sub(48)
-    } else if digit <= 70 {
-        digit.saturating_sub(55)
+    if digit <= b'9' {
+        u128::from(digit.saturating_sub(b'0'))
+    } else if digit <= b'F' {
+        u128::from(digit.saturating_sub(CAPITAL_OFFSET))
     } else {
-        digit.saturating_sub(87)
+        u128::from(digit.saturating_sub(SMALL_OFFSET))
     }
 }
 
@@ -44,7 +43,7 @@ pub fn number(base: u8, digits: &[u8]) -> u128
 {
     let mut value = 0u128;
     let mut rest = digits;
-    while let Some((first, behind)) = cut(rest) {
+    while let Some((first, behind)) = split_first(rest) {
         value = value
             .saturating_mul(u128::from(base))
             .saturating_add(value_of(first));
@@ -90,10 +89,10 @@ fn has_digits_alone(text: &[u8]) -> bool
 }
 
 fn exponent_of<'a>(whole: &'a [u8], fraction: &'a [u8], text: &'a [u8]) -> Option<Numeral<'a>>
-    ensures value { option_map seen result ≡ spec.exponent_of whole.now fraction.now text.now }
+    ensures value { option_map as_parts result ≡ spec.exponent_of whole.now fraction.now text.now }
     ensures same { IfSome result (λ n. (n.whole.now ≡ whole.now) × (n.fraction.now ≡ fraction.now)) }
 {
-    match cut(text) {
+    match split_first(text) {
         None => Some(Numeral {
             whole,
             fraction,
@@ -116,7 +115,7 @@ fn exponent_of<'a>(whole: &'a [u8], fraction: &'a [u8], text: &'a [u8]) -> Optio
 }
 
 fn fraction_of<'a>(whole: &'a [u8], text: &'a [u8]) -> Option<Numeral<'a>>
-    ensures value { option_map seen result ≡ spec.fraction_of whole.now text.now }
+    ensures value { option_map as_parts result ≡ spec.fraction_of whole.now text.now }
     ensures within { IfSome result (λ n. length n.whole.now + length n.fraction.now ≤ length whole.now + length text.now) }
 {
     let len = digits_len(text);
@@ -128,7 +127,7 @@ fn fraction_of<'a>(whole: &'a [u8], text: &'a [u8]) -> Option<Numeral<'a>>
 }
 
 fn behind_whole<'a>(whole: &'a [u8], text: &'a [u8]) -> Option<Numeral<'a>>
-    ensures value { option_map seen result ≡ spec.behind_whole whole.now text.now }
+    ensures value { option_map as_parts result ≡ spec.behind_whole whole.now text.now }
     ensures within { IfSome result (λ n. length n.whole.now + length n.fraction.now ≤ length whole.now + length text.now) }
 {
     if byte(text, 0) == b'.' {
@@ -143,7 +142,7 @@ fn behind_whole<'a>(whole: &'a [u8], text: &'a [u8]) -> Option<Numeral<'a>>
 /// The parts of a number that may have a point or an exponent.
 #[tactic(auto, unfolding(crate::specs::Number::parts_of))]
 pub fn parts_of(text: &[u8]) -> Option<Numeral<'_>>
-    ensures value { option_map seen result ≡ spec.parts_of text.now }
+    ensures value { option_map as_parts result ≡ spec.parts_of text.now }
     ensures within { IfSome result (λ n. length n.whole.now + length n.fraction.now ≤ length text.now) }
 {
     let digits = past_sign(text);
@@ -151,7 +150,7 @@ pub fn parts_of(text: &[u8]) -> Option<Numeral<'_>>
     behind_whole(whole, rest)
 }
 
-/// The number with so many zeros at its end, and 2^128 - 1 where it is more.
+// The number with so many zeros at its end, and 2^128 - 1 where it is more.
 fn with_zeros(number: u128, count: usize) -> u128
     ensures { result ≡ min (number * 10 ^ count) (2 ^ 128 - 1) }
 {
@@ -164,10 +163,10 @@ fn with_zeros(number: u128, count: usize) -> u128
     value
 }
 
-/// The number with one more digit, and the count of zeros at its end, which it is taken without.
+// The number with one more digit, and the count of zeros at its end, which it is taken without.
 fn with_digit(number: u128, zeros: usize, digit: u8) -> (u128, usize)
     requires { zeros + 1 < 2 ^ 64 }
-    ensures value { IsCut result (spec.with_digit (number, zeros) digit) }
+    ensures value { IsSameToLimit result (spec.with_digit (number, zeros) digit) }
     ensures within { result.1 ≤ zeros + 1 }
 {
     if digit == b'0' {
@@ -180,16 +179,16 @@ fn with_digit(number: u128, zeros: usize, digit: u8) -> (u128, usize)
     }
 }
 
-/// The number with all these digits.
-fn significant(number: u128, zeros: usize, digits: &[u8]) -> (u128, usize)
+// The number with all these digits.
+fn significant_part(number: u128, zeros: usize, digits: &[u8]) -> (u128, usize)
     requires { zeros + length digits.now < 2 ^ 64 }
-    ensures value { IsCut result (fold spec.with_digit (number, zeros) digits.now) }
+    ensures value { IsSameToLimit result (fold spec.with_digit (number, zeros) digits.now) }
     ensures within { result.1 ≤ zeros + length digits.now }
 {
     let mut value = number;
     let mut count = zeros;
     let mut rest = digits;
-    while let Some((first, behind)) = cut(rest) {
+    while let Some((first, behind)) = split_first(rest) {
         let (more, ends) = with_digit(value, count, first);
         value = more;
         count = ends;
@@ -217,7 +216,7 @@ fn is_wide_exponent(below: bool, exponent: &[u8], zeros: usize, fraction: usize)
 }
 
 fn is_wide_number(number: u128, zeros: usize, numeral: &Numeral<'_>) -> bool
-    ensures { result ≡ spec.is_wide_number (number, zeros) (seen numeral.now) }
+    ensures { result ≡ spec.is_wide_number (number, zeros) (as_parts numeral.now) }
 {
     if number > WIDEST || numeral.exponent.len() > 30 {
         return true;
@@ -235,9 +234,9 @@ fn is_wide_number(number: u128, zeros: usize, numeral: &Numeral<'_>) -> bool
 #[tactic(auto, unfolding(crate::specs::Number::is_wide))]
 pub fn is_wide(numeral: &Numeral<'_>) -> bool
     requires { length numeral.now.whole.now + length numeral.now.fraction.now < 2 ^ 64 }
-    ensures { result ≡ spec.is_wide (seen numeral.now) }
+    ensures { result ≡ spec.is_wide (as_parts numeral.now) }
 {
-    let (number, zeros) = significant(0, 0, numeral.whole);
-    let (number, zeros) = significant(number, zeros, numeral.fraction);
+    let (number, zeros) = significant_part(0, 0, numeral.whole);
+    let (number, zeros) = significant_part(number, zeros, numeral.fraction);
     is_wide_number(number, zeros, numeral)
 }

@@ -1,6 +1,7 @@
 // Plain scalars.
 ghost use Rattle.std.specs.Prelude.{◌≡◌, ◌<◌, ◌≤◌, ◌++◌, false, if◌then◌else◌, length, replicate, IfOk, IfErr, IfSome};
 ghost use Rattle.std.specs.Option.{option_copied};
+ghost use Rattle.yaml_text.specs.Characters.{line_feed};
 ghost use Rattle.yaml_text.specs.Outcome.{IsRefused, Reads};
 ghost use Rattle.yaml_text.specs.Line.{breaks, blank_lines};
 ghost use Rattle.yaml_scalars.specs.Plain as spec;
@@ -8,8 +9,8 @@ ghost use Rattle.yaml_scalars.specs.Plain as spec;
 use dvc_base::Text;
 use std::alloc::Global;
 use yaml_text::{
-    Stop, blank_lines, byte, cut, is_bad, is_marker, is_white, past_spaces, past_white, spaces,
-    syntax, text_of,
+    Halt, blank_lines, byte, is_bad, is_marker, is_white, past_spaces, past_white, spaces,
+    split_first, syntax, text_of,
 };
 
 /// `,`, `[`, `]`, `{` or `}`.
@@ -19,8 +20,9 @@ pub fn is_flow_sign(byte: u8) -> bool
     byte == b',' || byte == b'[' || byte == b']' || byte == b'{' || byte == b'}'
 }
 
-fn parts(flow: bool, text: &[u8]) -> bool
-    ensures { result ≡ spec.parts flow text.now }
+// What may follow a `:` that parts a key from its value.
+fn may_follow_colon(flow: bool, text: &[u8]) -> bool
+    ensures { result ≡ spec.may_follow_colon flow text.now }
 {
     match text {
         [] => true,
@@ -34,17 +36,18 @@ pub fn is_colon(flow: bool, text: &[u8]) -> bool
 {
     match text {
         [] => false,
-        [first, rest @ ..] => *first == b':' && parts(flow, rest),
+        [first, rest @ ..] => *first == b':' && may_follow_colon(flow, rest),
     }
 }
 
-fn stops_before(flow: bool, white: bool, first: u8, rest: &[u8]) -> bool
-    ensures { result ≡ spec.stops_before flow white first rest.now }
+// Whether the part ends before this byte. `white` tells that white space stands before it.
+fn ends_before(flow: bool, white: bool, first: u8, rest: &[u8]) -> bool
+    ensures { result ≡ spec.ends_before flow white first rest.now }
 {
     first == b'\n'
         || is_bad(first)
         || (white && first == b'#')
-        || (first == b':' && parts(flow, rest))
+        || (first == b':' && may_follow_colon(flow, rest))
         || (flow && is_flow_sign(first))
 }
 
@@ -58,8 +61,8 @@ pub fn plain_len(flow: bool, text: &[u8]) -> usize
     let mut white = false;
     let mut at = 0;
     let mut end = 0;
-    while let Some((first, behind)) = cut(rest) {
-        if stops_before(flow, white, first, behind) {
+    while let Some((first, behind)) = split_first(rest) {
+        if ends_before(flow, white, first, behind) {
             return end;
         }
         white = is_white(first);
@@ -70,7 +73,7 @@ pub fn plain_len(flow: bool, text: &[u8]) -> usize
     end
 }
 
-/// Where the part ends so far: white space belongs to it only where more follows.
+// Where the part ends so far: white space belongs to it only where more follows.
 fn end_behind(white: bool, end: usize, at: usize) -> usize
     ensures { result ≡ (if white then end else at) }
 {
@@ -114,13 +117,14 @@ pub fn begins_plain(flow: bool, text: &[u8]) -> bool
             !(is_reserved(first)
                 || is_white(first)
                 || ((first == b'-' || first == b'?' || first == b':') && is_gap(rest))
-                || stops_before(flow, false, first, rest))
+                || ends_before(flow, false, first, rest))
         }
     }
 }
 
-fn is_over(text: &[u8]) -> bool
-    ensures { result ≡ spec.is_over text.now }
+// Whether the text ends, or a comment begins.
+fn is_end_or_comment(text: &[u8]) -> bool
+    ensures { result ≡ spec.is_end_or_comment text.now }
 {
     match text {
         [] => true,
@@ -128,7 +132,7 @@ fn is_over(text: &[u8]) -> bool
     }
 }
 
-fn part_in_flow<'a>(start: &'a [u8], text: &'a [u8]) -> Result<Option<&'a [u8]>, Stop>
+fn part_in_flow<'a>(start: &'a [u8], text: &'a [u8]) -> Result<Option<&'a [u8]>, Halt>
     ensures exact { Reads (λ part. option_copied part) result (spec.part_in_flow start.now text.now) }
     ensures within { IfOk result (λ part. IfSome part (λ t. length t.now ≤ length text.now)) }
     ensures refused { IfErr result IsRefused }
@@ -142,7 +146,7 @@ fn part_in_flow<'a>(start: &'a [u8], text: &'a [u8]) -> Result<Option<&'a [u8]>,
     }
 }
 
-fn part_of_block(text: &[u8]) -> Result<Option<&[u8]>, Stop>
+fn part_of_block(text: &[u8]) -> Result<Option<&[u8]>, Halt>
     ensures exact { Reads (λ part. option_copied part) result (spec.part_of_block text.now) }
     ensures within { IfOk result (λ part. IfSome part (λ t. length t.now ≤ length text.now)) }
     ensures refused { IfErr result IsRefused }
@@ -154,7 +158,7 @@ fn part_of_block(text: &[u8]) -> Result<Option<&[u8]>, Stop>
     }
 }
 
-fn part_in_block(least: usize, start: &[u8]) -> Result<Option<&[u8]>, Stop>
+fn part_in_block(least: usize, start: &[u8]) -> Result<Option<&[u8]>, Halt>
     ensures exact { Reads (λ part. option_copied part) result (spec.part_in_block least start.now) }
     ensures within { IfOk result (λ part. IfSome part (λ t. length t.now ≤ length start.now)) }
     ensures refused { IfErr result IsRefused }
@@ -169,15 +173,15 @@ fn part_in_block(least: usize, start: &[u8]) -> Result<Option<&[u8]>, Stop>
     }
 }
 
-/// The scalar's part on the line at `start`, or nothing where the scalar ended before it.
+// The scalar's part on the line at `start`, or nothing where the scalar ended before it.
 #[tactic(auto, unfolding(crate::specs::Plain::goes_on))]
-fn goes_on(flow: bool, least: usize, start: &[u8]) -> Result<Option<&[u8]>, Stop>
+fn goes_on(flow: bool, least: usize, start: &[u8]) -> Result<Option<&[u8]>, Halt>
     ensures exact { Reads (λ part. option_copied part) result (spec.goes_on flow least start.now) }
     ensures within { IfOk result (λ part. IfSome part (λ t. length t.now ≤ length start.now)) }
     ensures refused { IfErr result IsRefused }
 {
     let text = past_white(start);
-    if is_over(text) {
+    if is_end_or_comment(text) {
         Ok(None)
     } else if flow {
         part_in_flow(start, text)
@@ -191,7 +195,7 @@ fn with_part<'a>(
     found: &mut Vec<u8>,
     count: usize,
     text: &'a [u8],
-) -> Result<&'a [u8], Stop>
+) -> Result<&'a [u8], Halt>
     ensures exact { Reads (λ rest. (false, (found.new.items, rest.now))) result (Ok (spec.with_part flow found.old.items text.now count (Some text.now))) }
     ensures within { IfOk result (λ rest. length rest.now ≤ length text.now) }
 {
@@ -202,9 +206,9 @@ fn with_part<'a>(
 }
 
 /// Adds what a line break becomes where this many blank lines follow it.
-pub fn push_breaks(found: &mut Vec<u8>, count: usize) -> Result<(), Stop>
+pub fn push_breaks(found: &mut Vec<u8>, count: usize) -> Result<(), Halt>
     ensures ok { IfOk result (λ _. found.new.items ≡ found.old.items ++ breaks count) }
-    ensures err { IfErr result (λ stop. stop ≡ Stop.NoMemory) }
+    ensures err { IfErr result (λ halt. halt ≡ Halt.NoMemory) }
 {
     if count == 0 {
         found.push(b' ')?;
@@ -215,9 +219,9 @@ pub fn push_breaks(found: &mut Vec<u8>, count: usize) -> Result<(), Stop>
 }
 
 /// Adds this many line feeds.
-pub fn push_lines(found: &mut Vec<u8>, count: usize) -> Result<(), Stop>
-    ensures ok { IfOk result (λ _. found.new.items ≡ found.old.items ++ replicate count 10) }
-    ensures err { IfErr result (λ stop. stop ≡ Stop.NoMemory) }
+pub fn push_lines(found: &mut Vec<u8>, count: usize) -> Result<(), Halt>
+    ensures ok { IfOk result (λ _. found.new.items ≡ found.old.items ++ replicate count line_feed) }
+    ensures err { IfErr result (λ halt. halt ≡ Halt.NoMemory) }
 {
     let mut left = count;
     while left > 0 {
@@ -233,7 +237,7 @@ fn next_part<'a>(
     found: &mut Vec<u8>,
     text: &'a [u8],
     below: &'a [u8],
-) -> Result<(bool, &'a [u8]), Stop>
+) -> Result<(bool, &'a [u8]), Halt>
     requires { length below.now < length text.now }
     ensures exact { Reads (λ r. (r.0, (found.new.items, r.1.now))) result (spec.next_part flow least found.old.items text.now (blank_lines below.now)) }
     ensures within { IfOk result (λ r. length r.1.now ≤ length text.now) }
@@ -246,14 +250,14 @@ fn next_part<'a>(
     }
 }
 
-/// One turn: the line break and the next line's part, or the end.
+// One turn: the line break and the next line's part, or the end.
 #[tactic(auto, unfolding(crate::specs::Plain::plain_turn))]
 fn plain_turn<'a>(
     flow: bool,
     least: usize,
     found: &mut Vec<u8>,
     text: &'a [u8],
-) -> Result<(bool, &'a [u8]), Stop>
+) -> Result<(bool, &'a [u8]), Halt>
     ensures exact { Reads (λ r. (r.0, (found.new.items, r.1.now))) result (spec.plain_turn flow least found.old.items text.now) }
     ensures within { IfOk result (λ r. length r.1.now ≤ length text.now) }
     ensures shorter { IfOk result (λ r. r.0 ≡ false → length r.1.now < length text.now) }
@@ -279,7 +283,7 @@ pub fn plain_scalar(
     flow: bool,
     least: usize,
     text: &[u8],
-) -> Result<(Text, &[u8]), Stop>
+) -> Result<(Text, &[u8]), Halt>
     ensures exact { Reads (λ r. (r.0, r.1.now)) result (spec.plain flow least text.now) }
     ensures within { IfOk result (λ r. length r.1.now ≤ length text.now) }
 {

@@ -8,7 +8,9 @@ use crate::escape::escape;
 use crate::plain::{push_breaks, push_lines};
 use dvc_base::Text;
 use std::alloc::Global;
-use yaml_text::{Stop, blank_lines, byte, cut, is_bad, is_white, past_white, syntax, text_of};
+use yaml_text::{
+    Halt, blank_lines, byte, is_bad, is_white, past_white, split_first, syntax, text_of,
+};
 
 fn is_literal(quote: u8, byte: u8) -> bool
     ensures { result ≡ spec.is_literal quote byte }
@@ -28,7 +30,7 @@ fn literal_len(quote: u8, text: &[u8]) -> usize
     len
 }
 
-/// How long the text is without white space at its end.
+// How long the text is without white space at its end.
 fn solid_len(text: &[u8]) -> usize
     ensures value { result ≡ spec.solid_len text.now }
     ensures within { result ≤ length text.now }
@@ -40,19 +42,19 @@ fn solid_len(text: &[u8]) -> usize
     len
 }
 
-fn push_character(found: &mut Vec<u8>, character: char) -> Result<(), Stop>
+fn push_character(found: &mut Vec<u8>, character: char) -> Result<(), Halt>
     ensures ok { IfOk result (λ _. found.new.items ≡ found.old.items ++ encode_utf8 character) }
-    ensures err { IfErr result (λ stop. stop ≡ Stop.NoMemory) }
+    ensures err { IfErr result (λ halt. halt ≡ Halt.NoMemory) }
 {
     let mut bytes = [0; 4];
     found.extend_from_slice(character.encode_utf8(&mut bytes).as_bytes())?;
     Ok(())
 }
 
-/// Behind a line break: it becomes a space, or a line feed for each blank line that follows.
-#[tactic(auto, unfolding(crate::specs::Quoted::folded))]
-fn folded<'a>(found: &mut Vec<u8>, text: &'a [u8]) -> Result<(bool, &'a [u8]), Stop>
-    ensures exact { Reads (λ r. (r.0, (found.new.items, r.1.now))) result (Ok (spec.folded found.old.items text.now)) }
+// Behind a line break: it becomes a space, or a line feed for each blank line that follows.
+#[tactic(auto, unfolding(crate::specs::Quoted::fold_lines))]
+fn fold_lines<'a>(found: &mut Vec<u8>, text: &'a [u8]) -> Result<(bool, &'a [u8]), Halt>
+    ensures exact { Reads (λ r. (r.0, (found.new.items, r.1.now))) result (Ok (spec.fold_lines found.old.items text.now)) }
     ensures within { IfOk result (λ r. length r.1.now ≤ length text.now) }
 {
     let (count, rest) = blank_lines(text);
@@ -60,10 +62,10 @@ fn folded<'a>(found: &mut Vec<u8>, text: &'a [u8]) -> Result<(bool, &'a [u8]), S
     Ok((false, past_white(rest)))
 }
 
-/// Behind a line break with a backslash before it: only blank lines that follow it count.
-#[tactic(auto, unfolding(crate::specs::Quoted::joined))]
-fn joined<'a>(found: &mut Vec<u8>, text: &'a [u8]) -> Result<(bool, &'a [u8]), Stop>
-    ensures exact { Reads (λ r. (r.0, (found.new.items, r.1.now))) result (Ok (spec.joined found.old.items text.now)) }
+// Behind a line break with a backslash before it: only blank lines that follow it count.
+#[tactic(auto, unfolding(crate::specs::Quoted::join_lines))]
+fn join_lines<'a>(found: &mut Vec<u8>, text: &'a [u8]) -> Result<(bool, &'a [u8]), Halt>
+    ensures exact { Reads (λ r. (r.0, (found.new.items, r.1.now))) result (Ok (spec.join_lines found.old.items text.now)) }
     ensures within { IfOk result (λ r. length r.1.now ≤ length text.now) }
 {
     let (count, rest) = blank_lines(text);
@@ -71,8 +73,13 @@ fn joined<'a>(found: &mut Vec<u8>, text: &'a [u8]) -> Result<(bool, &'a [u8]), S
     Ok((false, past_white(rest)))
 }
 
-fn decoded<'a>(found: &mut Vec<u8>, at: &'a [u8], text: &'a [u8]) -> Result<(bool, &'a [u8]), Stop>
-    ensures exact { Reads (λ r. (r.0, (found.new.items, r.1.now))) result (spec.decoded found.old.items at.now (spec.escape text.now)) }
+// The character of the escape behind a backslash, which `at` begins with.
+fn with_escape<'a>(
+    found: &mut Vec<u8>,
+    at: &'a [u8],
+    text: &'a [u8],
+) -> Result<(bool, &'a [u8]), Halt>
+    ensures exact { Reads (λ r. (r.0, (found.new.items, r.1.now))) result (spec.with_escape found.old.items at.now (spec.escape text.now)) }
     ensures within { IfOk result (λ r. length r.1.now ≤ length text.now) }
 {
     match escape(text) {
@@ -84,26 +91,27 @@ fn decoded<'a>(found: &mut Vec<u8>, at: &'a [u8], text: &'a [u8]) -> Result<(boo
     }
 }
 
-#[tactic(auto, unfolding(crate::specs::Quoted::escaped))]
-fn escaped<'a>(
+// Behind a backslash, which `at` begins with.
+#[tactic(auto, unfolding(crate::specs::Quoted::at_backslash))]
+fn at_backslash<'a>(
     over: bool,
     found: &mut Vec<u8>,
     at: &'a [u8],
     text: &'a [u8],
-) -> Result<(bool, &'a [u8]), Stop>
-    ensures exact { Reads (λ r. (r.0, (found.new.items, r.1.now))) result (spec.escaped over found.old.items at.now text.now) }
+) -> Result<(bool, &'a [u8]), Halt>
+    ensures exact { Reads (λ r. (r.0, (found.new.items, r.1.now))) result (spec.at_backslash over found.old.items at.now text.now) }
     ensures within { IfOk result (λ r. length r.1.now ≤ length text.now) }
 {
     if byte(text, 0) != b'\n' {
-        decoded(found, at, text)
+        with_escape(found, at, text)
     } else if over {
-        joined(found, text.split_at(1).1)
+        join_lines(found, text.split_at(1).1)
     } else {
         Err(syntax(at))
     }
 }
 
-fn at_quote<'a>(quote: u8, found: &mut Vec<u8>, text: &'a [u8]) -> Result<(bool, &'a [u8]), Stop>
+fn at_quote<'a>(quote: u8, found: &mut Vec<u8>, text: &'a [u8]) -> Result<(bool, &'a [u8]), Halt>
     ensures exact { Reads (λ r. (r.0, (found.new.items, r.1.now))) result (Ok (spec.at_quote quote found.old.items text.now)) }
     ensures within { IfOk result (λ r. length r.1.now ≤ length text.now) }
 {
@@ -115,13 +123,14 @@ fn at_quote<'a>(quote: u8, found: &mut Vec<u8>, text: &'a [u8]) -> Result<(bool,
     }
 }
 
+// At a line break, which `at` begins with, behind `piece`.
 fn at_break<'a>(
     over: bool,
     found: &mut Vec<u8>,
     piece: &[u8],
     at: &'a [u8],
     text: &'a [u8],
-) -> Result<(bool, &'a [u8]), Stop>
+) -> Result<(bool, &'a [u8]), Halt>
     ensures exact { Reads (λ r. (r.0, (found.new.items, r.1.now))) result (spec.at_break over found.old.items piece.now at.now text.now) }
     ensures within { IfOk result (λ r. length r.1.now ≤ length text.now) }
 {
@@ -129,20 +138,21 @@ fn at_break<'a>(
         return Err(syntax(at));
     }
     found.extend_from_slice(piece.split_at(solid_len(piece)).0)?;
-    folded(found, text)
+    fold_lines(found, text)
 }
 
-fn meant<'a>(
+// At the next byte with a meaning, behind `piece`.
+fn at_meaning<'a>(
     quote: u8,
     over: bool,
     found: &mut Vec<u8>,
     piece: &[u8],
     text: &'a [u8],
-) -> Result<(bool, &'a [u8]), Stop>
-    ensures exact { Reads (λ r. (r.0, (found.new.items, r.1.now))) result (spec.meant quote over found.old.items piece.now text.now) }
+) -> Result<(bool, &'a [u8]), Halt>
+    ensures exact { Reads (λ r. (r.0, (found.new.items, r.1.now))) result (spec.at_meaning quote over found.old.items piece.now text.now) }
     ensures shorter { IfOk result (λ r. length r.1.now < length text.now) }
 {
-    match cut(text) {
+    match split_first(text) {
         None => Err(syntax(text)),
         Some((first, rest)) => {
             if first == b'\n' {
@@ -155,25 +165,25 @@ fn meant<'a>(
             if first == quote {
                 at_quote(quote, found, rest)
             } else {
-                escaped(over, found, text, rest)
+                at_backslash(over, found, text, rest)
             }
         }
     }
 }
 
-/// One turn: up to and with the next byte that has a meaning.
+// One turn: up to and with the next byte that has a meaning.
 #[tactic(auto, unfolding(crate::specs::Quoted::quoted_turn))]
 fn quoted_turn<'a>(
     quote: u8,
     over: bool,
     found: &mut Vec<u8>,
     text: &'a [u8],
-) -> Result<(bool, &'a [u8]), Stop>
+) -> Result<(bool, &'a [u8]), Halt>
     ensures exact { Reads (λ r. (r.0, (found.new.items, r.1.now))) result (spec.quoted_turn quote over found.old.items text.now) }
     ensures shorter { IfOk result (λ r. length r.1.now < length text.now) }
 {
     let (piece, rest) = text.split_at(literal_len(quote, text));
-    meant(quote, over, found, piece, rest)
+    at_meaning(quote, over, found, piece, rest)
 }
 
 /// The quoted scalar, read from behind its opening quote. `over` tells that it may go over lines.
@@ -183,7 +193,7 @@ pub fn quoted_scalar(
     quote: u8,
     over: bool,
     text: &[u8],
-) -> Result<(Text, &[u8]), Stop>
+) -> Result<(Text, &[u8]), Halt>
     ensures exact { Reads (λ r. (r.0, r.1.now)) result (spec.quoted quote over text.now) }
     ensures within { IfOk result (λ r. length r.1.now ≤ length text.now) }
 {

@@ -20,7 +20,7 @@ pub(crate) fn unescape(alloc: Global, row: &[u8]) -> Result<Vec<u8>, NoMemory> {
     Ok(bytes)
 }
 
-/// The byte whose escape goes on here, behind the backslash, and what is left behind it.
+// The byte whose escape goes on here, behind the backslash, and what is left behind it.
 fn escaped_byte(text: &[u8]) -> (u8, &[u8])
     ensures within { length result.1.now ≤ length text.now }
 {

@@ -44,7 +44,7 @@ fn show_pair(out: &mut Vec<u8>, pair: &Pair) -> Result<(), NoMemory> {
     show(out, &pair.value)
 }
 
-/// What parts an element from the one before it.
+// What parts an element from the one before it.
 fn push_comma(out: &mut Vec<u8>, at: usize) -> Result<(), NoMemory> {
     if at > 0 { push(out, ", ") } else { Ok(()) }
 }

@@ -8,7 +8,7 @@ use dvc_base::NoMemory;
 use std::alloc::Global;
 use yaml_profile::{Node, YamlFault, parse, print};
 
-/// The longest text that is read here.
+// The longest text that is read here.
 const MAX_LEN: usize = 1 << 24;
 
 /// The table, with an outcome behind each row.
@@ -31,7 +31,7 @@ fn push_line(alloc: Global, out: &mut Vec<u8>, line: &[u8]) -> Result<(), NoMemo
     push(out, "\n")
 }
 
-/// The bytes that stand in a row behind its sign and a space.
+// The bytes that stand in a row behind its sign and a space.
 fn text_of(alloc: Global, row: &[u8]) -> Result<Vec<u8>, NoMemory> {
     match row {
         [b' ', text @ ..] => unescape(alloc, text),
@@ -39,7 +39,7 @@ fn text_of(alloc: Global, row: &[u8]) -> Result<Vec<u8>, NoMemory> {
     }
 }
 
-/// Adds the node or the fault of a row's text.
+// Adds the node or the fault of a row's text.
 fn push_node(alloc: Global, out: &mut Vec<u8>, row: &[u8]) -> Result<(), NoMemory> {
     let text = text_of(alloc, row)?;
     push_both_ways(alloc, out, text.as_slice())
@@ -51,7 +51,7 @@ fn push_both_ways(alloc: Global, out: &mut Vec<u8>, text: &[u8]) -> Result<(), N
     push_again(alloc, out, text, before.as_slice())
 }
 
-/// Adds what is printed for a row's text, or its fault.
+// Adds what is printed for a row's text, or its fault.
 fn push_printed(alloc: Global, out: &mut Vec<u8>, row: &[u8]) -> Result<(), NoMemory> {
     let text = text_of(alloc, row)?;
     match read(alloc, text.as_slice()) {
@@ -68,7 +68,7 @@ fn push_outcome(out: &mut Vec<u8>, outcome: &[u8]) -> Result<(), NoMemory> {
     push_escaped(out, outcome)
 }
 
-/// Adds what the printed text stands for, where that differs from what the text stood for before it was printed.
+// Adds what the printed text stands for, where that differs from what the text stood for before it was printed.
 fn push_again(
     alloc: Global,
     out: &mut Vec<u8>,
@@ -98,7 +98,7 @@ fn push_difference(
     push_escaped(out, after.as_slice())
 }
 
-/// A text's node or its fault, in short.
+// A text's node or its fault, in short.
 fn outcome(alloc: Global, text: &[u8]) -> Result<Vec<u8>, NoMemory> {
     let mut out = Vec::new(alloc);
     match read(alloc, text) {
@@ -108,7 +108,7 @@ fn outcome(alloc: Global, text: &[u8]) -> Result<Vec<u8>, NoMemory> {
     Ok(out)
 }
 
-/// The node of a text, for which there is memory up to a length that no row has.
+// The node of a text, for which there is memory up to a length that no row has.
 #[tactic(auto, using(yaml_nodes::proofs::DocumentLemmas::lines_le))]
 fn read(alloc: Global, text: &[u8]) -> Result<Node, YamlFault>
     ensures { IfOk result IsPrintable }

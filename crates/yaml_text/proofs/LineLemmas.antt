@@ -2,7 +2,7 @@
 use Rattle.std.proofs.Common.{◌≡◌, ℕ, ◌+◌, ◌≤◌, Bool, true, false, cond, eqb, ◌||◌, [], ◌∷◌, length, drop, arith, length-drop, Ok, inl, inr}
 use Rattle.std.specs.Prelude.{slice_index}
 use Rattle.yaml_text.specs.Outcome.{Text, syntax}
-use Rattle.yaml_text.specs.Line.{is_white, spaces, whites, past_spaces, past_white, blank_from, blank_lines, is_marker, checked}
+use Rattle.yaml_text.specs.Line.{is_white, spaces, whites, past_spaces, past_white, blank_from, blank_lines, is_marker, check_line}
 use Rattle.yaml_text.proofs.OutcomeLemmas.{chosen}
 
 pub drop_le : (n : ℕ) (t : Text) → length (drop n t) ≤ length t
@@ -29,7 +29,7 @@ pub blank_lines_le : (t : Text) → length (blank_lines t).1 ≤ length t
 unfolding blank_lines
 blank_lines_le t = blank_from_le 0 t t (omega arith)
 
-pub checked_same : (start t : Text) → checked start ≡ Ok t → t ≡ start
-checked_same start t h =
+pub check_line_same : (start t : Text) → check_line start ≡ Ok t → t ≡ start
+check_line_same start t h =
     let cases = chosen (eqb (slice_index (past_spaces start) 0) 9 || is_marker start) (syntax (past_spaces start)) (Ok start) (Ok t) h in
     elim cases [ inl w ↦ absurd (let e = w.1 in cc) | inr w ↦ let e = w.1 in cc ]

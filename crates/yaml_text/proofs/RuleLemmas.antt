@@ -5,7 +5,7 @@ use Rattle.std.specs.Prelude.{slice_index}
 use Rattle.std.proofs.lemmas.Bool.Decides.{eqb_tells}
 use Rattle.yaml_text.specs.declared.refusal.Refusal.{Refusal}
 use Rattle.yaml_text.specs.Outcome.{Text, Outcome, ◌>>=◌, syntax}
-use Rattle.yaml_text.specs.Line.{is_white, is_bad, past_spaces, comment, rest_of_line, first_from, first_line, is_marker, checked, next_line}
+use Rattle.yaml_text.specs.Line.{is_white, is_bad, past_spaces, comment, rest_of_line, first_from, first_line, is_marker, check_line, next_line}
 use Rattle.yaml_text.specs.Rules as g
 use Rattle.yaml_text.proofs.OutcomeLemmas.{Gives, given, ok_at}
 use Rattle.yaml_text.proofs.WithinLemmas.{comment_within}
@@ -125,13 +125,13 @@ first_line_sound t o s = first_sound t t o s
 
 -- ---- the next line
 
-next_at : (t u : Text) → first_line t ≡ Ok u → next_line t ≡ checked u
+next_at : (t u : Text) → first_line t ≡ Ok u → next_line t ≡ check_line u
 unfolding next_line
-next_at t u a = ap (λ o. o >>= checked) a
+next_at t u a = ap (λ o. o >>= check_line) a
 
 bad_next : (t : Text) (e : Refusal) → first_line t ≡ Err e → next_line t ≡ Err e
 unfolding next_line
-bad_next t e a = ap (λ o. o >>= checked) a
+bad_next t e a = ap (λ o. o >>= check_line) a
 
 pub either_true : (a b : Bool) → b ≡ true → (a || b) ≡ true
 either_true true b h = refl
@@ -139,7 +139,7 @@ either_true false b h = h
 
 pub next_sound : (t : Text) (o : Outcome Text) → g.IsNext t o → next_line t ≡ o
 next_sound t o (g.bad_lines {e = e} s) = bad_next t e (first_sound t t (Err e) s)
-next_sound t o (g.tab {u = u} s h) = let a = next_at t u (first_sound t t (Ok u) s) in let d = eq-eqb (slice_index (past_spaces u) 0) 9 h in cc
+next_sound t o (g.a_tab {u = u} s h) = let a = next_at t u (first_sound t t (Ok u) s) in let d = eq-eqb (slice_index (past_spaces u) 0) 9 h in cc
 next_sound t o (g.second_marker {u = u} s h) =
     let a = next_at t u (first_sound t t (Ok u) s) in
     let d = either_true (eqb (slice_index (past_spaces u) 0) 9) (is_marker u) h in cc
@@ -149,7 +149,7 @@ pub next_total : (t : Text) → Gives (g.IsNext t)
 next_total t =
     elim (given (g.IsFirst t t) (first_total t)) [
       | inl u ↦ elim (eqb_tells (slice_index (past_spaces u.0) 0) 9) [
-        | inl w ↦ (syntax (past_spaces u.0), g.tab u.1 w.1)
+        | inl w ↦ (syntax (past_spaces u.0), g.a_tab u.1 w.1)
         | inr w ↦ elim (cases_Bool (is_marker u.0)) [ inl h ↦ (syntax (past_spaces u.0), g.second_marker u.1 h) | inr h ↦ (Ok u.0, g.next u.1 w.1 h) ]
       ]
       | inr e ↦ (Err e.0, g.bad_lines e.1)

@@ -3,7 +3,7 @@ use Rattle.std.proofs.Common.{ℕ, ◌≤◌, eqb, Bool, true, false, cond, ◌|
 use Rattle.std.specs.Prelude.{slice_index}
 use Rattle.std.specs.Result.{IfOk}
 use Rattle.yaml_text.specs.Outcome.{Text, Outcome, ◌>>=◌, syntax}
-use Rattle.yaml_text.specs.Line.{is_white, is_bad, past_spaces, comment, rest_of_line, first_from, first_line, is_marker, checked, next_line}
+use Rattle.yaml_text.specs.Line.{is_white, is_bad, past_spaces, comment, rest_of_line, first_from, first_line, is_marker, check_line, next_line}
 use Rattle.yaml_text.proofs.OutcomeLemmas.{then_ok, chosen_ok}
 
 abbrev pub Within : ℕ → Outcome Text → Type 0
@@ -45,9 +45,9 @@ first_from_within n inside start (b ∷ t) h k =
 pub first_within : (n : ℕ) (t : Text) → length t ≤ n → Within n (first_line t)
 first_within n t h = first_from_within n false t t h h
 
-checked_within : (n : ℕ) (start : Text) → length start ≤ n → Within n (checked start)
-checked_within n start h = chosen_within n (eqb (slice_index (past_spaces start) 0) 9 || is_marker start) (syntax (past_spaces start)) (Ok start) tt h
+check_line_within : (n : ℕ) (start : Text) → length start ≤ n → Within n (check_line start)
+check_line_within n start h = chosen_within n (eqb (slice_index (past_spaces start) 0) 9 || is_marker start) (syntax (past_spaces start)) (Ok start) tt h
 
 pub next_within : (n : ℕ) (t : Text) → length t ≤ n → Within n (next_line t)
 unfolding next_line
-next_within n t h = then_within n n (first_line t) checked (first_within n t h) (checked_within n)
+next_within n t h = then_within n n (first_line t) check_line (first_within n t h) (check_line_within n)

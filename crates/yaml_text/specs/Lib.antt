@@ -1,3 +1,4 @@
+pub mod Characters
 pub mod Outcome
 pub mod Line
 pub mod Source

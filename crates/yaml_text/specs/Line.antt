@@ -11,16 +11,17 @@
 --     breaks k                what a line break becomes where k blank lines follow it (6.5)
 use Rattle.std.specs.Prelude.{ℕ, ◌+◌, Bool, true, false, not, ◌&&◌, ◌||◌, if◌then◌else◌, ◌==◌, nat_lt, [], ◌∷◌, drop, replicate, slice_index, Ok}
 use Rattle.std.specs.List.{prefix_len}
+use Rattle.yaml_text.specs.Characters.{tab, line_feed, space, hash, dash, delete}
 use Rattle.yaml_text.specs.Outcome.{Text, Outcome, ◌>>=◌, syntax}
 
 abbrev pub is_white : ℕ → Bool
-is_white b = b == 32 || b == 9
+is_white b = b == space || b == tab
 
 abbrev pub is_bad : ℕ → Bool
-is_bad b = (nat_lt b 32 && not (b == 9 || b == 10)) || b == 127
+is_bad b = (nat_lt b space && not (b == tab || b == line_feed)) || b == delete
 
 abbrev pub spaces : Text → ℕ
-spaces = prefix_len (λ b. b == 32)
+spaces = prefix_len (λ b. b == space)
 
 abbrev pub whites : Text → ℕ
 whites = prefix_len is_white
@@ -36,23 +37,23 @@ past_white t = drop (whites t) t
 -- behind white space
 abbrev pub is_white_end : Text → Bool
 is_white_end [] = true
-is_white_end (b ∷ t) = b == 10 || b == 35 || (is_white b && is_white_end t)
+is_white_end (b ∷ t) = b == line_feed || b == hash || (is_white b && is_white_end t)
 
 abbrev pub is_rest_empty : Text → Bool
 is_rest_empty [] = true
-is_rest_empty (b ∷ t) = b == 10 || (is_white b && is_white_end t)
+is_rest_empty (b ∷ t) = b == line_feed || (is_white b && is_white_end t)
 
 -- behind a `#`, up to the next line
 abbrev pub comment : Text → Outcome Text
 comment [] = Ok []
-comment (b ∷ t) = if b == 10 then Ok t else if is_bad b then syntax (b ∷ t) else comment t
+comment (b ∷ t) = if b == line_feed then Ok t else if is_bad b then syntax (b ∷ t) else comment t
 
 abbrev pub rest_of_line : Bool → Text → Outcome Text
 rest_of_line may [] = Ok []
 rest_of_line may (b ∷ t) =
-    if b == 10 then Ok t
+    if b == line_feed then Ok t
     else if is_white b then rest_of_line true t
-    else if may && b == 35 then comment t
+    else if may && b == hash then comment t
     else syntax (b ∷ t)
 
 -- ---- lines
@@ -61,32 +62,33 @@ rest_of_line may (b ∷ t) =
 abbrev pub first_from : Bool → Text → Text → Outcome Text
 first_from inside start [] = Ok []
 first_from inside start (b ∷ t) =
-    if b == 10 then first_from false t t
+    if b == line_feed then first_from false t t
     else if inside then (if is_bad b then syntax (b ∷ t) else first_from true start t)
     else if is_white b then first_from false start t
-    else if b == 35 then first_from true start t
+    else if b == hash then first_from true start t
     else Ok start
 
 abbrev pub first_line : Text → Outcome Text
 first_line t = first_from false t t
 
 abbrev pub is_marker : Text → Bool
-is_marker t = slice_index t 0 == 45 && slice_index t 1 == 45 && slice_index t 2 == 45 && is_rest_empty (drop 3 t)
+is_marker t = slice_index t 0 == dash && slice_index t 1 == dash && slice_index t 2 == dash && is_rest_empty (drop 3 t)
 
 -- A tab before the first other character of a line, and a further `---`, are refused (6.1).
-abbrev pub checked : Text → Outcome Text
-checked start = if slice_index (past_spaces start) 0 == 9 || is_marker start then syntax (past_spaces start) else Ok start
+abbrev pub check_line : Text → Outcome Text
+check_line start = if slice_index (past_spaces start) 0 == tab || is_marker start then syntax (past_spaces start) else Ok start
 
 unfoldable pub next_line : Text → Outcome Text
-next_line t = first_line t >>= checked
+next_line t = first_line t >>= check_line
 
 -- `k` is how many blank lines were passed
 abbrev pub blank_from : ℕ → Text → Text → ℕ × Text
 blank_from k start [] = (k, [])
-blank_from k start (b ∷ t) = if b == 10 then blank_from (k + 1) t t else if is_white b then blank_from k start t else (k, start)
+blank_from k start (b ∷ t) =
+    if b == line_feed then blank_from (k + 1) t t else if is_white b then blank_from k start t else (k, start)
 
 unfoldable pub blank_lines : Text → ℕ × Text
 blank_lines t = blank_from 0 t t
 
 abbrev pub breaks : ℕ → Text
-breaks k = if k == 0 then 32 ∷ [] else replicate k 10
+breaks k = if k == 0 then space ∷ [] else replicate k line_feed

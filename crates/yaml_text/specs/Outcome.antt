@@ -1,12 +1,12 @@
 -- What reading the text that is left gives: a value, or why there is none.
 --     Outcome A            a value, or the first refusal
---     IsRefused e          reading stopped at what the text has
+--     IsRefused e          reading halted at what the text has
 --     Reads view r read    a function returned r, which seen by `view` is `read`, unless memory ran out
 use Rattle.std.specs.Prelude.{◌≡◌, ℕ, List, length, Result, Ok, Err}
 use Rattle.yaml_text.specs.declared.refusal.Refusal.{Refusal}
 use Rattle.yaml_text.specs.declared.refusal.Refusal.TheVariants.{Syntax}
-use Rattle.yaml_text.specs.declared.refusal.Stop.{Stop}
-use Rattle.yaml_text.specs.declared.refusal.Stop.TheVariants.{NoMemory, Refused}
+use Rattle.yaml_text.specs.declared.refusal.Halt.{Halt}
+use Rattle.yaml_text.specs.declared.refusal.Halt.TheVariants.{NoMemory, Refused}
 
 abbrev pub Text : Type 0
 Text = List ℕ
@@ -27,15 +27,16 @@ abbrev pub ◌>>=◌ : {A B : Type 0} → Outcome A → (A → Outcome B) → Ou
 abbrev pub syntax : {A : Type 0} → Text → Outcome A
 syntax t = Err (Syntax (length t))
 
--- reading stopped at what the text has, and not for want of memory
-abbrev pub IsRefused : Stop → Type 0
+-- reading halted at what the text has, and not for want of memory
+abbrev pub IsRefused : Halt → Type 0
 IsRefused NoMemory = ⊥
 IsRefused (Refused why) = Unit {0}
 
-abbrev pub Stops : {Y : Type 0} → Stop → Outcome Y → Type 0
-Stops NoMemory read = Unit {0}
-Stops (Refused why) read = read ≡ Err why
+-- for want of memory, or as the text is read
+abbrev pub Halts : {Y : Type 0} → Halt → Outcome Y → Type 0
+Halts NoMemory read = Unit {0}
+Halts (Refused why) read = read ≡ Err why
 
-abbrev pub Reads : {X Y : Type 0} → (X → Y) → Result X Stop → Outcome Y → Type 0
+abbrev pub Reads : {X Y : Type 0} → (X → Y) → Result X Halt → Outcome Y → Type 0
 Reads view (Ok x) read = read ≡ Ok (view x)
-Reads view (Err e) read = Stops e read
+Reads view (Err e) read = Halts e read

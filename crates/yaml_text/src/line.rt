@@ -1,9 +1,11 @@
 // Characters and lines, each function over the text that is left.
 ghost use Rattle.std.specs.Prelude.{◌≡◌, ◌≢◌, ◌<◌, ◌≤◌, ◌+◌, ◌&&◌, ◌==◌, true, false, [], ◌∷◌, MatchOption, length, drop, ◌-◌, slice_index, IfOk, IfErr};
+ghost use Rattle.yaml_text.specs.Characters.{hash};
 ghost use Rattle.yaml_text.specs.Outcome.{IsRefused, Reads, syntax};
 ghost use Rattle.yaml_text.specs.Line as spec;
 
-use crate::refusal::{Stop, syntax};
+use crate::characters::DELETE;
+use crate::refusal::{Halt, syntax};
 
 /// A space or a tab.
 pub fn is_white(byte: u8) -> bool
@@ -16,7 +18,7 @@ pub fn is_white(byte: u8) -> bool
 pub fn is_bad(byte: u8) -> bool
     ensures { result ≡ spec.is_bad byte }
 {
-    (byte < 32 && !(byte == b'\t' || byte == b'\n')) || byte == 127
+    (byte < b' ' && !(byte == b'\t' || byte == b'\n')) || byte == DELETE
 }
 
 /// The byte at a place, and 0 behind the end.
@@ -29,7 +31,7 @@ pub fn byte(text: &[u8], at: usize) -> u8
 
 /// The first byte and the text behind it.
 #[inline]
-pub fn cut(text: &[u8]) -> Option<(u8, &[u8])>
+pub fn split_first(text: &[u8]) -> Option<(u8, &[u8])>
     ensures { MatchOption result (text.now ≡ []) (λ r. text.now ≡ r.0 ∷ r.1.now) }
 {
     match text {
@@ -110,7 +112,7 @@ pub fn is_rest_empty(text: &[u8]) -> bool
     }
 }
 
-fn comment(mut text: &[u8]) -> Result<&[u8], Stop>
+fn comment(mut text: &[u8]) -> Result<&[u8], Halt>
     ensures exact { Reads (λ rest. rest.now) result (spec.comment text.entry.now) }
     ensures within { IfOk result (λ rest. length rest.now ≤ length text.entry.now) }
     ensures refused { IfErr result IsRefused }
@@ -128,7 +130,7 @@ fn comment(mut text: &[u8]) -> Result<&[u8], Stop>
 }
 
 /// The text behind the line, on which only white space and a comment may be left.
-pub fn rest_of_line(mut may: bool, mut text: &[u8]) -> Result<&[u8], Stop>
+pub fn rest_of_line(mut may: bool, mut text: &[u8]) -> Result<&[u8], Halt>
     ensures exact { Reads (λ rest. rest.now) result (spec.rest_of_line may text.entry.now) }
     ensures within { IfOk result (λ rest. length rest.now ≤ length text.entry.now) }
     ensures refused { IfErr result IsRefused }
@@ -146,10 +148,10 @@ pub fn rest_of_line(mut may: bool, mut text: &[u8]) -> Result<&[u8], Stop>
     Ok(text)
 }
 
-fn behind_white<'a>(may: bool, first: u8, text: &'a [u8], rest: &'a [u8]) -> Result<&'a [u8], Stop>
+fn behind_white<'a>(may: bool, first: u8, text: &'a [u8], rest: &'a [u8]) -> Result<&'a [u8], Halt>
     requires { length rest.now < length text.now }
-    ensures comment { may ≡ true → first ≡ 35 → Reads (λ rest. rest.now) result (spec.comment rest.now) }
-    ensures other { (may && first == 35) ≡ false → Reads (λ rest. rest.now) result (syntax text.now) }
+    ensures comment { may ≡ true → first ≡ hash → Reads (λ rest. rest.now) result (spec.comment rest.now) }
+    ensures other { (may && first == hash) ≡ false → Reads (λ rest. rest.now) result (syntax text.now) }
     ensures within { IfOk result (λ left. length left.now ≤ length rest.now) }
     ensures refused { IfErr result IsRefused }
 {
@@ -161,7 +163,7 @@ fn behind_white<'a>(may: bool, first: u8, text: &'a [u8], rest: &'a [u8]) -> Res
 }
 
 /// From the start of a line on: the text from the first line on that is neither blank nor a comment.
-pub fn first_line(mut text: &[u8]) -> Result<&[u8], Stop>
+pub fn first_line(mut text: &[u8]) -> Result<&[u8], Halt>
     ensures exact { Reads (λ rest. rest.now) result (spec.first_line text.entry.now) }
     ensures within { IfOk result (λ rest. length rest.now ≤ length text.entry.now) }
     ensures refused { IfErr result IsRefused }
@@ -198,17 +200,17 @@ pub fn is_marker(text: &[u8]) -> bool
 
 /// From the start of a line on: the next line that may begin a node of block style.
 #[tactic(auto, unfolding(crate::specs::Line::next_line))]
-pub fn next_line(text: &[u8]) -> Result<&[u8], Stop>
+pub fn next_line(text: &[u8]) -> Result<&[u8], Halt>
     ensures exact { Reads (λ rest. rest.now) result (spec.next_line text.now) }
     ensures within { IfOk result (λ rest. length rest.now ≤ length text.now) }
     ensures refused { IfErr result IsRefused }
 {
     let start = first_line(text)?;
-    checked(start)
+    check_line(start)
 }
 
-fn checked(start: &[u8]) -> Result<&[u8], Stop>
-    ensures exact { Reads (λ rest. rest.now) result (spec.checked start.now) }
+fn check_line(start: &[u8]) -> Result<&[u8], Halt>
+    ensures exact { Reads (λ rest. rest.now) result (spec.check_line start.now) }
     ensures within { IfOk result (λ rest. length rest.now ≤ length start.now) }
     ensures refused { IfErr result IsRefused }
 {

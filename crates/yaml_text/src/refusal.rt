@@ -1,4 +1,4 @@
-// Why reading stops.
+// Why reading halts.
 ghost use Rattle.std.specs.Prelude.{◌≡◌, length};
 
 use dvc_base::NoMemory;
@@ -13,46 +13,46 @@ pub enum Refusal {
     TooWide(usize),
 }
 
-/// Why reading stopped.
+/// Why reading halted.
 #[derive(Clone, Copy, Debug, PartialEq, Eq)]
-pub enum Stop {
+pub enum Halt {
     NoMemory,
     Refused(Refusal),
 }
 
-impl From<NoMemory> for Stop {
-    ghost use Rattle.yaml_text.specs.declared.refusal.Stop.TheVariants.{NoMemory as Memory};
+impl From<NoMemory> for Halt {
+    ghost use Rattle.yaml_text.specs.declared.refusal.Halt.TheVariants.{NoMemory as Memory};
 
-    ghost from_gives = { λ _ stop. stop ≡ Memory };
+    ghost from_gives = { λ _ halt. halt ≡ Memory };
 
-    fn from(_: NoMemory) -> Stop {
-        Stop::NoMemory
+    fn from(_: NoMemory) -> Halt {
+        Halt::NoMemory
     }
 }
 
-impl From<AllocError> for Stop {
-    ghost use Rattle.yaml_text.specs.declared.refusal.Stop.TheVariants.{NoMemory as Memory};
+impl From<AllocError> for Halt {
+    ghost use Rattle.yaml_text.specs.declared.refusal.Halt.TheVariants.{NoMemory as Memory};
 
-    ghost from_gives = { λ _ stop. stop ≡ Memory };
+    ghost from_gives = { λ _ halt. halt ≡ Memory };
 
-    fn from(_: AllocError) -> Stop {
-        Stop::NoMemory
+    fn from(_: AllocError) -> Halt {
+        Halt::NoMemory
     }
 }
 
-impl<T: Drop> From<AllocFailed<T>> for Stop {
-    ghost use Rattle.yaml_text.specs.declared.refusal.Stop.TheVariants.{NoMemory as Memory};
+impl<T: Drop> From<AllocFailed<T>> for Halt {
+    ghost use Rattle.yaml_text.specs.declared.refusal.Halt.TheVariants.{NoMemory as Memory};
 
-    ghost from_gives = { λ _ stop. stop ≡ Memory };
+    ghost from_gives = { λ _ halt. halt ≡ Memory };
 
-    fn from(_: AllocFailed<T>) -> Stop {
-        Stop::NoMemory
+    fn from(_: AllocFailed<T>) -> Halt {
+        Halt::NoMemory
     }
 }
 
 /// No rule reads the text that is left.
-pub fn syntax(text: &[u8]) -> Stop
-    ensures { result ≡ Stop.Refused (Refusal.Syntax (length text.now)) }
+pub fn syntax(text: &[u8]) -> Halt
+    ensures { result ≡ Halt.Refused (Refusal.Syntax (length text.now)) }
 {
-    Stop::Refused(Refusal::Syntax(text.len()))
+    Halt::Refused(Refusal::Syntax(text.len()))
 }

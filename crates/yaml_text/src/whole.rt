@@ -1,11 +1,13 @@
 // A text as the rules read it.
 ghost use Rattle.std.specs.Prelude.{◌≡◌, ◌<◌, ◌≤◌, ◌+◌, ◌^◌, ◌++◌, ◌∷◌, length, take, drop, count_by, IfOk, ◌==◌, false};
+ghost use Rattle.yaml_text.specs.Characters.{line_feed, null};
 ghost use Rattle.yaml_text.specs.Source as spec;
 
 use crate::line::{byte, is_rest_empty, is_white};
 use dvc_base::{NoMemory, Text};
 use std::alloc::Global;
 
+// The text behind a byte order mark, if it begins with one.
 fn past_mark(text: &[u8]) -> &[u8]
     ensures { result.now ≡ spec.past_mark text.now }
 {
@@ -29,14 +31,14 @@ fn with_line_feeds(alloc: Global, mut text: &[u8]) -> Result<Vec<u8>, NoMemory>
     Ok(lines)
 }
 
-/// The bytes with a character that no text may have before those from `at` on.
-fn with_stop(alloc: Global, bytes: &[u8], at: usize) -> Result<Vec<u8>, NoMemory>
+// The bytes with a null, a character that no text may have, before those from `at` on.
+fn with_null(alloc: Global, bytes: &[u8], at: usize) -> Result<Vec<u8>, NoMemory>
     requires { at ≤ length bytes.now }
-    ensures { IfOk result (λ text. text.items ≡ take at bytes.now ++ 0 ∷ drop at bytes.now) }
+    ensures { IfOk result (λ text. text.items ≡ take at bytes.now ++ null ∷ drop at bytes.now) }
 {
     let (valid, other) = bytes.split_at(at);
     let mut text = Vec::from_slice(alloc, valid)?;
-    text.push(0)?;
+    text.push(b'\0')?;
     text.extend_from_slice(other)?;
     Ok(text)
 }
@@ -50,7 +52,7 @@ pub fn source(alloc: Global, bytes: &[u8]) -> Result<Vec<u8>, NoMemory>
     match std::str::from_utf8(bytes) {
         Ok(_) => with_line_feeds(alloc, past_mark(bytes)),
         Err(fault) => {
-            let marked = with_stop(alloc, bytes, fault.valid_up_to())?;
+            let marked = with_null(alloc, bytes, fault.valid_up_to())?;
             with_line_feeds(alloc, past_mark(marked.as_slice()))
         }
     }
@@ -105,7 +107,7 @@ pub fn body_len(text: &[u8]) -> usize
 /// The line that has the first of the bytes that are left; for none of them the last line.
 #[tactic(auto, unfolding(crate::specs::Source::line_of))]
 pub fn line_of(text: &[u8], left: usize) -> u32
-    requires { count_by (λ b. b == 10) text.now + 1 < 2 ^ 32 }
+    requires { count_by (λ b. b == line_feed) text.now + 1 < 2 ^ 32 }
     ensures { result ≡ spec.line_of text.now left }
 {
     let before = text.split_at(text.len().saturating_sub(left.max(1))).0;

@@ -1,10 +1,9 @@
 -- Each way that a command may end: its words are refused, its workspace can't be read, or its stages have had their turns.
-use Rattle.std.proofs.Common.{◌≡◌, Err, refl, sym, ap, subst, ◌∙◌, rules}
-use Rattle.dvc_base.specs.declared.fault.Fault.TheVariants.{OutFault}
-use Rattle.world_api.specs.History.{History}
+use Rattle.std.proofs.Common.{◌≡◌, Err, refl, sym, subst, ◌∙◌, rules}
 use Rattle.repro_core.specs.Steps.{turn_kinds}
-use Rattle.dvc_cli.specs.Workspace.{AreUsable, read_kinds}
-use Rattle.dvc_cli.proofs.AnswerLemmas.{is_repro-words, kind_apart}
+use Rattle.dvc_cli.specs.Plan.{AreUsable}
+use Rattle.dvc_cli.specs.Workspace.{read_kinds}
+use Rattle.dvc_cli.proofs.AnswerLemmas.{is_repro-words}
 use Rattle.dvc_cli.proofs.CommandLemmas.{refused_does, refused_puts, other_refusal, other_halted, other_answers, unread_refusal, unread_halted, repro_answers, turned_at, turned_does, turned_refuses, turned_puts, workspace_at}
 use Rattle.dvc_cli.proofs.command.perform.Goals as goal
 
@@ -85,7 +84,7 @@ returns-clause-does g c = λ t.
     let e = c.repro.ensures in
     turned_does c.repro.result c.args.words.now stages lock c.repro.new.lock start old new same u w (e.remembered t)
     (turned_at old.present.aside.fixed.effect stages lock c.repro.new.lock c.repro.result old new
-    (e.headline t) (e.answer t) (e.ran t) (e.untouched t) (e.stopped t) (e.moments t))
+    (e.headline t) (e.answer t) (e.ran t) (e.untouched t) (e.halted t) (e.moments t))
 
 pub returns-clause-refuses : goal.returns-clause-refuses
 returns-clause-refuses g c = λ t.

@@ -1,5 +1,5 @@
 use Rattle.std.proofs.Common.{refl, codes, ◌++◌}
-use Rattle.world_api.proofs.OutputLemmas.{takes_stop, takes_middle, takes_later}
+use Rattle.world_api.proofs.OutputLemmas.{takes_stop, takes_middle}
 use Rattle.dvc_base.specs.FaultParts.{text_in}
 use Rattle.dvc_cli.proofs.message.put_line.Goals as goal
 

@@ -1,5 +1,5 @@
 use Rattle.std.proofs.Common.{refl, codes}
-use Rattle.world_api.proofs.OutputLemmas.{takes_stop, takes_later}
+use Rattle.world_api.proofs.OutputLemmas.{takes_stop}
 use Rattle.dvc_cli.proofs.message.put_next.Goals as goal
 
 pub returns-in_err-put-clause-all : goal.returns-in_err-put-clause-all

@@ -1,5 +1,5 @@
 -- A walk is its first name, and then the others.
-use Rattle.std.proofs.Common.{◌≡◌, ◌∷◌, ◌++◌, sym, ap, ◌∙◌, rules}
+use Rattle.std.proofs.Common.{◌≡◌, ◌∷◌, ap, ◌∙◌, rules}
 use Rattle.std.specs.List.{flat_map}
 use Rattle.world_api.proofs.OutputLemmas.{takes_stop, takes_later}
 use Rattle.dvc_base.specs.FaultParts.{walk_text}

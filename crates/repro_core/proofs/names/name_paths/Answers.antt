@@ -1,16 +1,18 @@
 -- One more path has its name, or has none.
-use Rattle.std.proofs.Common.{◌≡◌, ◌<◌, ◌∙◌, ◌++◌, ◌∷◌, ◌^◌, ℕ, [], List, get_or, length, Some, sym, ap, subst, rules}
+use Rattle.std.proofs.Common.{◌≡◌, ◌<◌, ◌∙◌, ◌++◌, ◌∷◌, ◌+◌, ℕ, [], List, get_or, length, take, IsTrue, Some, sym, ap, subst, rules}
 use Rattle.world_api.specs.Tree.{value_at}
 use Rattle.file_hash.specs.Naming.{named_of}
 use Rattle.lock_files.specs.declared.entry.PathEntry.{PathEntry}
-use Rattle.repro_laws.specs.Moments.{AreSized}
+use Rattle.lock_files.specs.Form.{is_path_entry}
+use Rattle.repro_core.specs.Steps.{AreNamed}
 use Rattle.world_api.specs.History.{History}
 use Rattle.repro_laws.specs.Entries.{named_path}
 use Rattle.std.proofs.lemmas.Result.{err_from_is_err_and}
 use Rattle.std.proofs.lemmas.List.{length-map}
 use Rattle.world_api.specs.Effect.{path_from}
 use Rattle.repro_core.proofs.TellLemmas.{change_at}
-use Rattle.repro_core.proofs.NamesLemmas.{named_more, named_stops, sized_more}
+use Rattle.repro_core.proofs.FormLemmas.{are_named_none, are_named_more}
+use Rattle.repro_core.proofs.NamesLemmas.{named_more, named_halts}
 use Rattle.repro_core.proofs.names.name_paths.Goals as goal
 
 pub returns-in-None-clause-found : goal.returns-in-None-clause-found
@@ -25,7 +27,7 @@ returns-in-None-clause-found g c told =
     let there : c.index-paths-at.result ≡ get_or c.args.paths.now i c.index-paths-at.result = search rules in
     let found = sym c.in-None.is ∙ c.in_ok-entry.ensures.named told in
     let at_start = ap (λ (h : History). named_path text (named_of (value_at h.present.tree c.index-paths-at.result))) (c.loop-at.invariant.same told) in
-    named_stops tree dir texts c.args.paths.now i text c.index-paths-at.result c.requires.named_by within here there (found ∙ at_start)
+    named_halts tree dir texts c.args.paths.now i text c.index-paths-at.result c.requires.named_by within here there (found ∙ at_start)
 
 pub loop-at-preserved : goal.loop-at-preserved
 loop-at-preserved g c =
@@ -40,7 +42,7 @@ loop-at-preserved g c =
     let here : text ≡ get_or texts i text = search rules in
     let there : c.index-paths-at.result ≡ get_or c.args.paths.now i c.index-paths-at.result = search rules in
     let pushed : c.push.new.self ≡ entries ++ entry ∷ [] = c.in_ok-push-in-Some.ensures.ok in
-    let size : entry.size < 2 ^ 64 = search rules in
+    let good : (entry.path ≡ text) × IsTrue (is_path_entry entry) = search rules in
     record {
       same = λ told. c.name_path.ensures.unchanged told ∙ c.loop-at.invariant.same told;
       named = λ told.
@@ -48,7 +50,7 @@ loop-at-preserved g c =
           let at_start = ap (λ (h : History). named_path text (named_of (value_at h.present.tree c.index-paths-at.result))) (c.loop-at.invariant.same told) in
           named_more tree dir texts c.args.paths.now i text c.index-paths-at.result entries entry c.requires.named_by within here there (c.loop-at.invariant.named told) (found ∙ at_start)
           ∙ ap (λ (es : List PathEntry). Some es) (sym pushed);
-      sized = subst AreSized (sym pushed) (sized_more entries entry c.loop-at.invariant.sized size);
+      good = subst (AreNamed (take (i + 1) texts)) (sym pushed) (are_named_more texts i text entries entry within here good.0 good.1 c.loop-at.invariant.good);
       counted = search rules;
     }
 

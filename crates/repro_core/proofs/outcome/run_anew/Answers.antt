@@ -35,7 +35,7 @@ returns-in_default-clause-moments g c told =
     let s = c.args.stage.now in
     let start = g.W.Ground.history c.args.world.now in
     let cleared = g.W.Ground.history c.clear_outputs.new.world in
-    let clears = cleared_moments s c.as_slice.result.now start cleared (c.as_slice.ensures.same ∙ c.requires.plan.outs) (c.clear_outputs.ensures.moments told) in
+    let clears = cleared_moments s c.as_slice.result.now start cleared (c.as_slice.ensures.same ∙ c.requires.prepared.outs) (c.clear_outputs.ensures.moments told) in
     passes_weaker (Keeps (is_in_any (stage_outs s)) start.present) (InAnew s start.present) start cleared (λ m h. anew_of_keeps s start.present m c.requires.ready c.requires.kept h) clears
 
 pub run_job-requires-clause-folders : goal.run_job-requires-clause-folders
@@ -43,8 +43,8 @@ run_job-requires-clause-folders g c told =
     let s = c.args.stage.now in
     let start = g.W.Ground.history c.args.world.now in
     let cleared = g.W.Ground.history c.clear_outputs.new.world in
-    let clears = cleared_moments s c.as_slice.result.now start cleared (c.as_slice.ensures.same ∙ c.requires.plan.outs) (c.clear_outputs.ensures.moments told) in
-    subst (λ (job : Job). HasFolders job cleared.present.tree) (sym c.requires.plan.job) (folders_kept s start.present.tree cleared.present.tree c.requires.ready (c.requires.folders told) clears.now.paths.items)
+    let clears = cleared_moments s c.as_slice.result.now start cleared (c.as_slice.ensures.same ∙ c.requires.prepared.outs) (c.clear_outputs.ensures.moments told) in
+    subst (λ (job : Job). HasFolders job cleared.present.tree) (sym c.requires.prepared.job) (folders_kept s start.present.tree cleared.present.tree c.requires.ready (c.requires.folders told) clears.now.paths.items)
 
 pub returns-in_err-run_job-clause-answer : goal.returns-in_err-run_job-clause-answer
 returns-in_err-run_job-clause-answer g c told =
@@ -53,9 +53,9 @@ returns-in_err-run_job-clause-answer g c told =
     let cleared = g.W.Ground.history c.clear_outputs.new.world in
     let ran = g.W.Ground.history c.run_job.new.world in
     let fault = c.in_err-run_job.field-0.0 in
-    let clears = cleared_moments s c.as_slice.result.now start cleared (c.as_slice.ensures.same ∙ c.requires.plan.outs) (c.clear_outputs.ensures.moments told) in
+    let clears = cleared_moments s c.as_slice.result.now start cleared (c.as_slice.ensures.same ∙ c.requires.prepared.outs) (c.clear_outputs.ensures.moments told) in
     let run : WasRun (job_of s) s.name (Some fault) cleared.present ran.present =
-    subst (λ (job : Job). WasRun job s.name (Some fault) cleared.present ran.present) c.requires.plan.job (c.in_err-run_job.ensures.ran told) in
+    subst (λ (job : Job). WasRun job s.name (Some fault) cleared.present ran.present) c.requires.prepared.job (c.in_err-run_job.ensures.ran told) in
     let exit = err_from_is_err_and c.from_residual.result c.from_residual.ensures.1 in
     rw (exit.1, exit.2) (answer_of_run s start.present cleared.present ran.present fault c.requires.ready (c.requires.deps told) clears.now run c.in_err-run_job.ensures.kinds)
 
@@ -65,8 +65,8 @@ returns-in_err-run_job-clause-moments g c told =
     let start = g.W.Ground.history c.args.world.now in
     let cleared = g.W.Ground.history c.clear_outputs.new.world in
     let ran = g.W.Ground.history c.run_job.new.world in
-    let clears = cleared_moments s c.as_slice.result.now start cleared (c.as_slice.ensures.same ∙ c.requires.plan.outs) (c.clear_outputs.ensures.moments told) in
-    run_moments s c.args.plan.now.job start cleared ran c.requires.ready c.requires.kept c.requires.plan.job clears (c.run_job.ensures.moments told)
+    let clears = cleared_moments s c.as_slice.result.now start cleared (c.as_slice.ensures.same ∙ c.requires.prepared.outs) (c.clear_outputs.ensures.moments told) in
+    run_moments s c.args.prepared.now.job start cleared ran c.requires.ready c.requires.kept c.requires.prepared.job clears (c.run_job.ensures.moments told)
 
 pub returns-clause-answer : goal.returns-clause-answer
 returns-clause-answer g c told =
@@ -74,10 +74,10 @@ returns-clause-answer g c told =
     let start = g.W.Ground.history c.args.world.now in
     let cleared = g.W.Ground.history c.clear_outputs.new.world in
     let ran = g.W.Ground.history c.run_job.new.world in
-    let clears = cleared_moments s c.as_slice.result.now start cleared (c.as_slice.ensures.same ∙ c.requires.plan.outs) (c.clear_outputs.ensures.moments told) in
+    let clears = cleared_moments s c.as_slice.result.now start cleared (c.as_slice.ensures.same ∙ c.requires.prepared.outs) (c.clear_outputs.ensures.moments told) in
     let run : WasRun (job_of s) s.name None cleared.present ran.present =
-    subst (λ (job : Job). WasRun job s.name None cleared.present ran.present) c.requires.plan.job (c.in_ok-run_job.ensures.ran told) in
-    let outs : c.as_slice-2.result.now ≡ stage_outs s = c.as_slice-2.ensures.same ∙ c.requires.plan.outs in
+    subst (λ (job : Job). WasRun job s.name None cleared.present ran.present) c.requires.prepared.job (c.in_ok-run_job.ensures.ran told) in
+    let outs : c.as_slice-2.result.now ≡ stage_outs s = c.as_slice-2.ensures.same ∙ c.requires.prepared.outs in
     let look = subst (λ (ps : List Path). IsAnswer (fault_in c.look_at_outputs.result) (out_fault s.name ps (map (value_at ran.present.tree) ps))) outs (c.look_at_outputs.ensures.answer told) in
     answer_of_look s start.present cleared.present ran.present (fault_in c.look_at_outputs.result) c.requires.ready (c.requires.deps told) clears.now run look
 
@@ -87,10 +87,10 @@ returns-clause-made g c told =
     let start = g.W.Ground.history c.args.world.now in
     let cleared = g.W.Ground.history c.clear_outputs.new.world in
     let ran = g.W.Ground.history c.run_job.new.world in
-    let clears = cleared_moments s c.as_slice.result.now start cleared (c.as_slice.ensures.same ∙ c.requires.plan.outs) (c.clear_outputs.ensures.moments told) in
+    let clears = cleared_moments s c.as_slice.result.now start cleared (c.as_slice.ensures.same ∙ c.requires.prepared.outs) (c.clear_outputs.ensures.moments told) in
     let run : WasRun (job_of s) s.name None cleared.present ran.present =
-    subst (λ (job : Job). WasRun job s.name None cleared.present ran.present) c.requires.plan.job (c.in_ok-run_job.ensures.ran told) in
-    let outs : c.as_slice-2.result.now ≡ stage_outs s = c.as_slice-2.ensures.same ∙ c.requires.plan.outs in
+    subst (λ (job : Job). WasRun job s.name None cleared.present ran.present) c.requires.prepared.job (c.in_ok-run_job.ensures.ran told) in
+    let outs : c.as_slice-2.result.now ≡ stage_outs s = c.as_slice-2.ensures.same ∙ c.requires.prepared.outs in
     let look = subst (λ (ps : List Path). IsAnswer (fault_in c.look_at_outputs.result) (out_fault s.name ps (map (value_at ran.present.tree) ps))) outs (c.look_at_outputs.ensures.answer told) in
     rw (c.look_at_outputs.ensures.unchanged told) (made_of_look s start.present cleared.present ran.present c.look_at_outputs.result c.requires.ready (c.requires.deps told) clears.now run look)
 
@@ -98,7 +98,7 @@ pub returns-clause-files : goal.returns-clause-files
 returns-clause-files g c told =
     let s = c.args.stage.now in
     let ran = g.W.Ground.history c.run_job.new.world in
-    let outs : c.as_slice-2.result.now ≡ stage_outs s = c.as_slice-2.ensures.same ∙ c.requires.plan.outs in
+    let outs : c.as_slice-2.result.now ≡ stage_outs s = c.as_slice-2.ensures.same ∙ c.requires.prepared.outs in
     let look = subst (λ (ps : List Path). IsAnswer (fault_in c.look_at_outputs.result) (out_fault s.name ps (map (value_at ran.present.tree) ps))) outs (c.look_at_outputs.ensures.answer told) in
     rw (c.look_at_outputs.ensures.unchanged told) (files_of_look s ran.present c.look_at_outputs.result look)
 
@@ -108,6 +108,6 @@ returns-clause-moments g c told =
     let start = g.W.Ground.history c.args.world.now in
     let cleared = g.W.Ground.history c.clear_outputs.new.world in
     let ran = g.W.Ground.history c.run_job.new.world in
-    let clears = cleared_moments s c.as_slice.result.now start cleared (c.as_slice.ensures.same ∙ c.requires.plan.outs) (c.clear_outputs.ensures.moments told) in
-    let moments = run_moments s c.args.plan.now.job start cleared ran c.requires.ready c.requires.kept c.requires.plan.job clears (c.run_job.ensures.moments told) in
+    let clears = cleared_moments s c.as_slice.result.now start cleared (c.as_slice.ensures.same ∙ c.requires.prepared.outs) (c.clear_outputs.ensures.moments told) in
+    let moments = run_moments s c.args.prepared.now.job start cleared ran c.requires.ready c.requires.kept c.requires.prepared.job clears (c.run_job.ensures.moments told) in
     subst (λ (h : History). Passes (InAnew s start.present) start h) (sym (c.look_at_outputs.ensures.unchanged told)) moments

@@ -6,18 +6,16 @@ use Rattle.world_api.specs.Tree.{value_at}
 use Rattle.world_api.specs.Effect.{gives, invocation_of}
 use Rattle.world_api.specs.History.{Fixed, History, Passes}
 use Rattle.world_api.specs.Layout.{lock_path}
-use Rattle.world_api.specs.Writes.{InScratch, InWrite, CanWrite}
+use Rattle.world_api.specs.Writes.{InScratch, CanWrite}
 use Rattle.lock_files.specs.declared.entry.PathEntry.{PathEntry}
 use Rattle.lock_files.specs.Book.{set}
-use Rattle.lock_files.specs.Lock.{lock_text}
 use Rattle.repro_laws.specs.Stage.{job_of, stage_outs}
 use Rattle.repro_laws.specs.Due.{outcome_fault}
 use Rattle.dvc_base.specs.Answer.{fault_in, IsAnswer}
-use Rattle.repro_laws.specs.Moments.{AreSized}
-use Rattle.repro_core.specs.Steps.{InAnew}
+use Rattle.repro_core.specs.Steps.{InAnew, InRecord}
 use Rattle.dvc_base.specs.declared.fault.Fault.TheVariants.{WorldFault}
 use Rattle.world_api.proofs.HistoryLemmas.{passes_weaker}
-use Rattle.repro_core.proofs.RunLemmas.{can_write, moments_of_anew, stopped_early, MayRun, HasMade, runs_of_record, next_of_record, moments_of_record, left_of_record, begun_folders, begun_deps, begun_effect, begun_moments, anew_of_scratch, some_map, recorded_answer}
+use Rattle.repro_core.proofs.RunLemmas.{can_write, moments_of_anew, halted_early, MayRun, HasMade, runs_of_record, next_of_record, moments_of_record, left_of_record, begun_folders, begun_deps, begun_effect, begun_moments, anew_of_scratch, some_map, recorded_answer}
 use Rattle.repro_core.proofs.run.run_and_record.Goals as goal
 
 pub run_anew-requires-clause-folders : goal.run_anew-requires-clause-folders
@@ -43,14 +41,14 @@ returns-in_err-run_anew-clause-answer g c told =
     let exit = err_from_is_err_and c.from_residual.result c.from_residual.ensures.1 in
     rw (exit.1, exit.2) (begun_effect s start.present begun.present (λ o. IsAnswer (Some fault) (outcome_fault s o)) c.requires.ready c.requires.kept (c.begin_write.ensures.moments told).now (c.requires.files told) (c.in_err-run_anew.ensures.answer told))
 
-pub returns-in_err-run_anew-clause-stopped : goal.returns-in_err-run_anew-clause-stopped
-returns-in_err-run_anew-clause-stopped g c told =
+pub returns-in_err-run_anew-clause-halted : goal.returns-in_err-run_anew-clause-halted
+returns-in_err-run_anew-clause-halted g c told =
     let s = c.args.stage.now in
     let start = g.W.Ground.history c.args.world.now in
     let begun = g.W.Ground.history c.begin_write.new.files in
     let ran = g.W.Ground.history c.run_anew.new.world in
     let run = begun_moments s start begun ran (c.begin_write.ensures.moments told) (c.run_anew.ensures.moments told) in
-    stopped_early s c.args.lock.now start.present ran.present c.from_residual.result c.requires.ready c.requires.kept run.now
+    halted_early s c.args.lock.now start.present ran.present c.from_residual.result c.requires.ready c.requires.kept run.now
 
 pub returns-in_err-run_anew-clause-moments : goal.returns-in_err-run_anew-clause-moments
 returns-in_err-run_anew-clause-moments g c told =
@@ -61,8 +59,8 @@ returns-in_err-run_anew-clause-moments g c told =
     let run = begun_moments s start begun ran (c.begin_write.ensures.moments told) (c.run_anew.ensures.moments told) in
     moments_of_anew s c.args.lock.now start ran c.requires.ready c.requires.kept run
 
-pub returns-in_err-entry-clause-stopped : goal.returns-in_err-entry-clause-stopped
-returns-in_err-entry-clause-stopped g c told =
+pub returns-in_err-entry-clause-halted : goal.returns-in_err-entry-clause-halted
+returns-in_err-entry-clause-halted g c told =
     let s = c.args.stage.now in
     let start = g.W.Ground.history c.args.world.now in
     let begun = g.W.Ground.history c.begin_write.new.files in
@@ -70,7 +68,7 @@ returns-in_err-entry-clause-stopped g c told =
     let run = begun_moments s start begun ran (c.begin_write.ensures.moments told) (c.run_anew.ensures.moments told) in
     let named = g.W.Ground.history c.entry_of_run.new.files in
     let moments = subst (Passes (InAnew s start.present) start) (sym (c.entry_of_run.ensures.unchanged told)) run in
-    stopped_early s c.args.lock.now start.present named.present c.from_residual-in_err-entry.result c.requires.ready c.requires.kept moments.now
+    halted_early s c.args.lock.now start.present named.present c.from_residual-in_err-entry.result c.requires.ready c.requires.kept moments.now
 
 pub returns-in_err-entry-clause-moments : goal.returns-in_err-entry-clause-moments
 returns-in_err-entry-clause-moments g c told =
@@ -103,7 +101,7 @@ returns-clause-runs g c told =
     let lock = c.args.lock.now in
     let end = g.W.Ground.history c.record.new.files in
     let e = c.in_ok-entry.entry in
-    let bytes = lock_text (set lock s.name e) in
+    let written = set lock s.name e in
     let may : MayRun s start.present.tree = record { ready = c.requires.ready; kept = c.requires.kept; deps = c.requires.files told } in
     let made : HasMade s e start.present ran.present =
     record {
@@ -114,11 +112,11 @@ returns-clause-runs g c told =
       commands = c.in_ok-entry.ensures.others.0;
       deps = c.requires.named told ∙ ap (λ (ps : List PathEntry). Some ps) (sym c.in_ok-entry.ensures.others.1);
       outs = c.in_ok-entry.ensures.outs told;
-      deps_sized = subst AreSized (sym c.in_ok-entry.ensures.others.1) c.requires.sized;
-      outs_sized = c.in_ok-entry.ensures.sized;
+      params = c.in_ok-entry.ensures.others.2;
+      form = c.in_ok-entry.ensures.form;
     } in
-    let write = subst (λ (h : History). Passes (InWrite lock_path bytes h.present) h end) (c.entry_of_run.ensures.unchanged told) (c.record.ensures.moments told) in
-    runs_of_record s e lock c.record.new.lock start.present ran.present end.present bytes c.record.result may made write.now (g.met.W.ReadFiles.stands c.record.new.files told).0 c.record.ensures.set
+    let write = subst (λ (h : History). Passes (InRecord written h.present) h end) (c.entry_of_run.ensures.unchanged told) (c.record.ensures.moments told) in
+    runs_of_record s e lock c.record.new.lock start.present ran.present end.present written c.record.result may made write.now (g.met.W.ReadFiles.stands c.record.new.files told).0 c.record.ensures.set
 
 pub returns-clause-next : goal.returns-clause-next
 returns-clause-next g c told =
@@ -130,7 +128,7 @@ returns-clause-next g c told =
     let lock = c.args.lock.now in
     let end = g.W.Ground.history c.record.new.files in
     let e = c.in_ok-entry.entry in
-    let bytes = lock_text (set lock s.name e) in
+    let written = set lock s.name e in
     let may : MayRun s start.present.tree = record { ready = c.requires.ready; kept = c.requires.kept; deps = c.requires.files told } in
     let made : HasMade s e start.present ran.present =
     record {
@@ -141,14 +139,14 @@ returns-clause-next g c told =
       commands = c.in_ok-entry.ensures.others.0;
       deps = c.requires.named told ∙ ap (λ (ps : List PathEntry). Some ps) (sym c.in_ok-entry.ensures.others.1);
       outs = c.in_ok-entry.ensures.outs told;
-      deps_sized = subst AreSized (sym c.in_ok-entry.ensures.others.1) c.requires.sized;
-      outs_sized = c.in_ok-entry.ensures.sized;
+      params = c.in_ok-entry.ensures.others.2;
+      form = c.in_ok-entry.ensures.form;
     } in
-    let write = subst (λ (h : History). Passes (InWrite lock_path bytes h.present) h end) (c.entry_of_run.ensures.unchanged told) (c.record.ensures.moments told) in
-    next_of_record s e lock c.record.new.lock start.present ran.present end.present bytes c.record.result may made write.now (c.requires.place told) c.record.ensures.set
+    let write = subst (λ (h : History). Passes (InRecord written h.present) h end) (c.entry_of_run.ensures.unchanged told) (c.record.ensures.moments told) in
+    next_of_record s e lock c.record.new.lock start.present ran.present end.present written c.record.result may made write.now (c.requires.place told) c.record.ensures.set
 
-pub returns-clause-stopped : goal.returns-clause-stopped
-returns-clause-stopped g c told =
+pub returns-clause-halted : goal.returns-clause-halted
+returns-clause-halted g c told =
     let s = c.args.stage.now in
     let start = g.W.Ground.history c.args.world.now in
     let begun = g.W.Ground.history c.begin_write.new.files in
@@ -157,7 +155,7 @@ returns-clause-stopped g c told =
     let lock = c.args.lock.now in
     let end = g.W.Ground.history c.record.new.files in
     let e = c.in_ok-entry.entry in
-    let bytes = lock_text (set lock s.name e) in
+    let written = set lock s.name e in
     let may : MayRun s start.present.tree = record { ready = c.requires.ready; kept = c.requires.kept; deps = c.requires.files told } in
     let made : HasMade s e start.present ran.present =
     record {
@@ -168,10 +166,10 @@ returns-clause-stopped g c told =
       commands = c.in_ok-entry.ensures.others.0;
       deps = c.requires.named told ∙ ap (λ (ps : List PathEntry). Some ps) (sym c.in_ok-entry.ensures.others.1);
       outs = c.in_ok-entry.ensures.outs told;
-      deps_sized = subst AreSized (sym c.in_ok-entry.ensures.others.1) c.requires.sized;
-      outs_sized = c.in_ok-entry.ensures.sized;
+      params = c.in_ok-entry.ensures.others.2;
+      form = c.in_ok-entry.ensures.form;
     } in
-    let write = subst (λ (h : History). Passes (InWrite lock_path bytes h.present) h end) (c.entry_of_run.ensures.unchanged told) (c.record.ensures.moments told) in
+    let write = subst (λ (h : History). Passes (InRecord written h.present) h end) (c.entry_of_run.ensures.unchanged told) (c.record.ensures.moments told) in
     left_of_record s e lock start.present ran.present end.present c.record.result may made write.now c.record.ensures.kinds (λ none. ap (λ (h : History). h.present) (c.record.ensures.untouched told none ∙ c.entry_of_run.ensures.unchanged told))
 
 pub returns-clause-moments : goal.returns-clause-moments
@@ -184,7 +182,7 @@ returns-clause-moments g c told =
     let lock = c.args.lock.now in
     let end = g.W.Ground.history c.record.new.files in
     let e = c.in_ok-entry.entry in
-    let bytes = lock_text (set lock s.name e) in
+    let written = set lock s.name e in
     let may : MayRun s start.present.tree = record { ready = c.requires.ready; kept = c.requires.kept; deps = c.requires.files told } in
     let made : HasMade s e start.present ran.present =
     record {
@@ -195,18 +193,18 @@ returns-clause-moments g c told =
       commands = c.in_ok-entry.ensures.others.0;
       deps = c.requires.named told ∙ ap (λ (ps : List PathEntry). Some ps) (sym c.in_ok-entry.ensures.others.1);
       outs = c.in_ok-entry.ensures.outs told;
-      deps_sized = subst AreSized (sym c.in_ok-entry.ensures.others.1) c.requires.sized;
-      outs_sized = c.in_ok-entry.ensures.sized;
+      params = c.in_ok-entry.ensures.others.2;
+      form = c.in_ok-entry.ensures.form;
     } in
-    let write = subst (λ (h : History). Passes (InWrite lock_path bytes h.present) h end) (c.entry_of_run.ensures.unchanged told) (c.record.ensures.moments told) in
+    let write = subst (λ (h : History). Passes (InRecord written h.present) h end) (c.entry_of_run.ensures.unchanged told) (c.record.ensures.moments told) in
     moments_of_record s e lock start ran end may made run write
 
-pub returns-in_default-clause-stopped : goal.returns-in_default-clause-stopped
-returns-in_default-clause-stopped g c told =
+pub returns-in_default-clause-halted : goal.returns-in_default-clause-halted
+returns-in_default-clause-halted g c told =
     let s = c.args.stage.now in
     let start = g.W.Ground.history c.args.world.now in
     let begun = g.W.Ground.history c.begin_write.new.files in
-    stopped_early s c.args.lock.now start.present begun.present (Err WorldFault) c.requires.ready c.requires.kept (anew_of_scratch s start.present begun.present (c.begin_write.ensures.moments told).now)
+    halted_early s c.args.lock.now start.present begun.present (Err WorldFault) c.requires.ready c.requires.kept (anew_of_scratch s start.present begun.present (c.begin_write.ensures.moments told).now)
 
 pub returns-in_default-clause-moments : goal.returns-in_default-clause-moments
 returns-in_default-clause-moments g c told =

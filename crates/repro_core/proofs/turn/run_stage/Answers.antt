@@ -10,8 +10,8 @@ use Rattle.repro_laws.proofs.OptionLemmas.{if_some}
 use Rattle.repro_core.proofs.OneStageLemmas.{moments_same}
 use Rattle.repro_core.proofs.turn.run_stage.Goals as goal
 
-pub returns-in_err-plan-clause-report : goal.returns-in_err-plan-clause-report
-returns-in_err-plan-clause-report g c told taken =
+pub returns-in_err-prepared-clause-report : goal.returns-in_err-prepared-clause-report
+returns-in_err-prepared-clause-report g c told taken =
     let s = c.args.stage.now in
     let lock = c.args.lock.now in
     let start = g.W.Ground.history c.args.world.now in
@@ -19,7 +19,7 @@ returns-in_err-plan-clause-report g c told taken =
     let exit = err_from_is_err_and c.from_residual.result c.from_residual.ensures.1 in
     rw (exit.1, exit.2) (if_some start.present.aside.fixed.effect (λ effect. Gains (Some NoMemory) old (report (due effect (s ∷ []) start.present.tree lock)) old) (λ effect known. front_none old (report (due effect (s ∷ []) start.present.tree lock))))
 
-pub returns-in_err-plan-clause-moments : goal.returns-in_err-plan-clause-moments
-returns-in_err-plan-clause-moments g c told =
+pub returns-in_err-prepared-clause-moments : goal.returns-in_err-prepared-clause-moments
+returns-in_err-prepared-clause-moments g c told =
     let start = g.W.Ground.history c.args.world.now in
     moments_same c.args.stage.now c.args.lock.now start start c.requires.ready c.requires.kept refl

@@ -4,14 +4,16 @@ use Rattle.world_api.specs.Writes.{CanWrite}
 use Rattle.repro_laws.specs.Choices.{due}
 use Rattle.world_api.specs.History.{IsCaused}
 use Rattle.world_api.specs.Layout.{lock_path}
+use Rattle.lock_files.specs.Form.{IsBook}
 use Rattle.repro_laws.specs.Sound.{lock_of}
 use Rattle.repro_laws.proofs.SoFarLemmas.{SoFar, IsTold}
 use Rattle.repro_core.proofs.turns.repro.Given as goal
 
--- the turns of the stages so far have ended, the lock that stands is theirs, and it can be written again. Where nothing is
+-- the turns of the stages so far have ended, the lock is in form and stands, and it can be written again. Where nothing is
 -- due no turn ends
 abbrev pub invariant-loop-stage : goal.invariant-loop-stage
 invariant-loop-stage g l = record {
+  form : IsBook l.lock;
   place : IsTrue g.W.Ground.tells → CanWrite lock_path (g.W.Ground.history l.world).present.tree;
   read : IsTrue g.W.Ground.tells → lock_of (g.W.Ground.history l.world).present.tree ≡ Some l.lock;
   so_far : IsTrue g.W.Ground.tells → (effect : Effect) → (g.W.Ground.history l.fn.world).present.aside.fixed.effect ≡ Some effect → SoFar effect (take l.stage-index l.stages) l.fn.lock l.lock (g.W.Ground.history l.fn.world) (g.W.Ground.history l.world) g.K.Sink.tells (g.K.Sink.taken l.fn.out) (g.K.Sink.taken l.out);

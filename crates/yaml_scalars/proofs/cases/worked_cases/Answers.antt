@@ -1,5 +1,5 @@
 use Rattle.std.proofs.Common.{refl}
-use Rattle.yaml_scalars.specs.Quoted.{escape, hex_2, hex_4, hex_8, pair}
+use Rattle.yaml_scalars.specs.Quoted.{escape, hex_2, hex_4, hex_8, surrogate_pair}
 use Rattle.yaml_scalars.specs.Lines.{margin}
 use Rattle.yaml_scalars.specs.Number.{parts_of, is_wide}
 use Rattle.yaml_scalars.specs.Kind.{scalar}
@@ -16,7 +16,7 @@ unfolding escape
 returns-clause-letter c = record { null = refl; bell = refl; backspace = refl; tab = refl; line_feed = refl; vertical_tab = refl; form_feed = refl; carriage_return = refl; escape_sign = refl; space = refl; double_quote = refl; slash = refl; backslash = refl; next_line = refl; hard_space = refl; line_separator = refl; paragraph_separator = refl; single_quote = refl; other_letter = refl; nothing = refl }
 
 pub returns-clause-number : goal.returns-clause-number
-unfolding escape hex_2 hex_4 hex_8 pair
+unfolding escape hex_2 hex_4 hex_8 surrogate_pair
 returns-clause-number c = record { two_digits = refl; four_digits = refl; eight_digits = refl; last_character = refl; behind_the_last = refl; two_surrogates = refl; high_surrogate = refl; high_and_letter = refl; low_surrogate = refl; surrogate_in_eight = refl; one_digit = refl; no_digit = refl }
 
 pub returns-clause-word : goal.returns-clause-word

@@ -1,6 +1,0 @@
--- Bytes below 128 are UTF-8.
-use Rattle.std.proofs.lemmas.Str.{IsUtf8-from_ascii}
-use Rattle.dvc_cli.proofs.form.text_of.Goals as goal
-
-pub unreachable-requires : goal.unreachable-requires
-unreachable-requires c = c.in-Err.ensures.cases.0 (IsUtf8-from_ascii c.args.bytes.now c.requires)

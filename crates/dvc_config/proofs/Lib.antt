@@ -1,0 +1,4 @@
+mod PieceLemmas
+mod LineLemmas
+mod SettingLemmas
+mod UrlLemmas

@@ -1,0 +1,4 @@
+pub mod Line
+pub mod Config
+pub mod Url
+pub mod Cases

@@ -1,0 +1,15 @@
+use Rattle.std.proofs.Common.{◌≡◌, Ok, ap, sym, subst, ◌∙◌}
+use Rattle.yaml_nodes.specs.Document.{parse}
+use Rattle.yaml_print.specs.Sound.{IsPrintable}
+use Rattle.lock_files.specs.Read.{track_read}
+use Rattle.lock_files.proofs.ReadLemmas.{track_again, ok_then}
+use Rattle.lock_files.proofs.PrintableLemmas.{track_printable}
+use Rattle.lock_files.proofs.print.print_track.Goals as goal
+
+pub print-requires : goal.print-requires
+print-requires c = subst IsPrintable (sym c.in_ok-node.ensures.exact) (track_printable c.args.track.now c.requires)
+
+pub returns-clause-read_back : goal.returns-clause-read_back
+returns-clause-read_back c =
+    ok_then c.print.result (λ text. parse text ≡ Ok c.in_ok-node.node) (λ text. track_read text ≡ Ok c.args.track.now)
+    (λ text h. track_again c.args.track.now text c.requires (h ∙ ap Ok c.in_ok-node.ensures.exact)) c.print.ensures.read_back

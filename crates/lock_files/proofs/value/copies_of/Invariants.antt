@@ -1,0 +1,6 @@
+use Rattle.std.proofs.Common.{◌≡◌, map, take}
+use Rattle.lock_files.proofs.value.copies_of.Given as goal
+
+-- those so far
+abbrev pub invariant-loop-pair : goal.invariant-loop-pair
+invariant-loop-pair l = l.copies ≡ map (λ p. p.now) (take l.pair-index l.pairs)
