@@ -27,7 +27,7 @@ fn put_printed(out: &mut Writer, text: &[u8], printed: &[u8]) -> Result<(), NoMe
     out.put_all(&[b"=> printed as\n", printed])
 }
 
-/// Puts whether what was printed is read back, which shows where that is printed again.
+// Puts whether what was printed is read back, which shows where that is printed again.
 fn put_back(
     alloc: Global,
     out: &mut Writer,

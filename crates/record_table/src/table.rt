@@ -38,7 +38,7 @@ fn put_line(alloc: Global, out: &mut Writer, row: &mut Row, line: &[u8]) -> Resu
     out.put_all(&[line, b"\n"])
 }
 
-/// What a text is read as, by the line that begins it.
+// What a text is read as, by the line that begins it.
 fn record_of(head: &[u8]) -> Option<Record> {
     if head.starts_with(b"lock") {
         Some(Record::Lock)
@@ -51,7 +51,7 @@ fn record_of(head: &[u8]) -> Option<Record> {
     }
 }
 
-/// Puts the outcome of a text whose lines have all come.
+// Puts the outcome of a text whose lines have all come.
 fn end(alloc: Global, out: &mut Writer, row: &Row) -> Result<(), NoMemory> {
     match row.record {
         Some(record) => put_outcome(alloc, out, record, row.text.as_slice()),
