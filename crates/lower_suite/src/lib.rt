@@ -1,4 +1,4 @@
-//! Tests of the crates below the turns: paths, texts, names, faults, the config and the lock.
+//! Tests of the crates below the turns: paths, texts, names, faults, the config, the lock, and values.
 #![tactic(auto)]
 
 #[cfg(test)]
@@ -7,3 +7,5 @@ mod base;
 mod config;
 #[cfg(test)]
 mod lock;
+#[cfg(test)]
+mod values;

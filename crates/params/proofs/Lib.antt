@@ -1,0 +1,9 @@
+pub mod LookupLemmas
+pub mod DigitLemmas
+pub mod PartLemmas
+pub mod NumberLemmas
+pub mod CanonLemmas
+pub mod PairLemmas
+pub mod AgainLemmas
+pub mod SameLemmas
+pub mod SoundLemmas
