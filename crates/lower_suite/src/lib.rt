@@ -1,4 +1,5 @@
-//! Tests of the crates below the turns: paths, texts, names, faults, the config, the lock, and values.
+//! Tests of the crates below the turns: paths, texts, names, faults, the config, the lock, values, and files of
+//! parameters.
 #![tactic(auto)]
 
 #[cfg(test)]
@@ -7,5 +8,7 @@ mod base;
 mod config;
 #[cfg(test)]
 mod lock;
+#[cfg(test)]
+mod params_files;
 #[cfg(test)]
 mod values;

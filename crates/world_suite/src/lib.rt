@@ -1,6 +1,5 @@
 //! Tests of the worlds. The same calls are drawn for the world in memory and for real files, and both give
-//! the same answers. What only real files have, as links, pipes and failures, is played from scripts. Files of parameters are
-//! read in the world in memory.
+//! the same answers. What only real files have, as links, pipes and failures, is played from scripts.
 #![tactic(auto)]
 
 #[cfg(test)]
@@ -13,8 +12,6 @@ mod jobs;
 mod layout;
 #[cfg(test)]
 mod memory;
-#[cfg(test)]
-mod params_files;
 #[cfg(test)]
 mod scripts;
 #[cfg(test)]
