@@ -1,5 +1,5 @@
-//! Tests of the crates below the turns: paths, texts, names, faults, the config, the lock, values, and files of
-//! parameters.
+//! Tests of the crates below the turns: paths, texts, names, faults, the config, the lock, values, files of parameters,
+//! and variables.
 #![tactic(auto)]
 
 #[cfg(test)]
@@ -12,3 +12,5 @@ mod lock;
 mod params_files;
 #[cfg(test)]
 mod values;
+#[cfg(test)]
+mod vars;

@@ -1,0 +1,9 @@
+pub mod BoolLemmas
+pub mod SpaceLemmas
+pub mod PieceLemmas
+pub mod TurnLemmas
+pub mod ResolveLemmas
+pub mod ScopeLemmas
+pub mod MergeLemmas
+pub mod ItemLemmas
+pub mod LawLemmas

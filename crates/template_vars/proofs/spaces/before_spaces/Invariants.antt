@@ -1,0 +1,11 @@
+use Rattle.std.proofs.Common.{◌≡◌, length}
+use denote.Text.{Utf8}
+use denote.Shadow.{shadow}
+use Rattle.template_vars.specs.Template.{before_spaces}
+use Rattle.template_vars.proofs.spaces.before_spaces.Given as goal
+
+abbrev pub invariant-loop-rest : goal.invariant-loop-rest
+invariant-loop-rest l = shadow (Utf8 l.text) × (before_spaces l.text ≡ before_spaces l.initial.text)
+
+abbrev pub decreases-loop-rest : goal.decreases-loop-rest
+decreases-loop-rest l = length l.text
