@@ -25,7 +25,12 @@ fn one(alloc: Global, key: &str, text: &str) -> Result<PairList, NoMemory> {
 // `outer: {key: text}`
 fn nested(alloc: Global, outer: &str, key: &str, text: &str) -> Result<PairList, NoMemory> {
     let mut pairs = PairList::new(alloc);
-    put(alloc, &mut pairs, outer, Node::Pairs(one(alloc, key, text)?))?;
+    put(
+        alloc,
+        &mut pairs,
+        outer,
+        Node::Pairs(one(alloc, key, text)?),
+    )?;
     Ok(pairs)
 }
 
@@ -36,7 +41,12 @@ fn merges(alloc: Global, vars: &mut Variables, made: Result<PairList, NoMemory>)
     }
 }
 
-fn is_refused(alloc: Global, vars: &mut Variables, made: Result<PairList, NoMemory>, want: &str) -> bool {
+fn is_refused(
+    alloc: Global,
+    vars: &mut Variables,
+    made: Result<PairList, NoMemory>,
+    want: &str,
+) -> bool {
     match made {
         Ok(pairs) => match vars.merge(alloc, pairs.as_slice()) {
             Err(TemplateFault::Schema { key }) => key.as_str() == want,
@@ -78,7 +88,10 @@ fn is_mapping(alloc: Global, scope: &Scope, key: &str) -> bool {
 
 fn fills_texts(alloc: Global, scope: &Scope) -> bool {
     is_text(resolve(alloc, scope, "${a.x}${ a.y }"), "12")
-        && is_text(resolve(alloc, scope, "printf '\\${HOME} ${item.m}'"), "printf '${HOME} linear'")
+        && is_text(
+            resolve(alloc, scope, "printf '\\${HOME} ${item.m}'"),
+            "printf '${HOME} linear'",
+        )
         && is_text(resolve(alloc, scope, "é $ ${a.x} ${é"), "é $ 1 ${é")
         && lacks(resolve(alloc, scope, "${a.x} ${b}"), "b")
         && is_mapping(alloc, scope, "a")
