@@ -1,0 +1,5 @@
+//! Tests of the graph of stages.
+#![tactic(auto)]
+
+#[cfg(test)]
+mod graph;

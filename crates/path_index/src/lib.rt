@@ -1,0 +1,6 @@
+//! Which of many paths overlap one.
+#![tactic(auto)]
+
+mod index;
+
+pub use index::PathIndex;

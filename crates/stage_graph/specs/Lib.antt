@@ -1,0 +1,9 @@
+pub mod Fault
+pub mod Paths
+pub mod Texts
+pub mod Kept
+pub mod Clash
+pub mod Cycle
+pub mod Makers
+pub mod Graph
+pub mod Cases

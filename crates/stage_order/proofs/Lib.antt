@@ -1,0 +1,5 @@
+pub mod NumberLemmas
+pub mod SeatLemmas
+pub mod OrderLemmas
+pub mod TakenLemmas
+pub mod WalkLemmas

@@ -1,0 +1,4 @@
+pub mod Order
+pub mod Walk
+pub mod Brought
+pub mod Seated
