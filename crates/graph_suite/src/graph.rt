@@ -1,6 +1,6 @@
 // The graph of the stages that a `dvc.yaml` says.
 use dvc_base::{FaultKind, Node};
-use stage_graph::{Graph, TrackFile};
+use stage_graph::Graph;
 use std::alloc::Global;
 use template_expand::{Stage, expand};
 use yaml_profile::parse;
@@ -25,8 +25,6 @@ const ROUND: &[u8] = b"stages:
 // All texts here are shorter, and so have few lines and few stages.
 const SHORT: usize = 4096;
 
-const NO_TRACKS: &[TrackFile] = &[];
-
 fn has_order(alloc: Global, text: &[u8], order: &[u32]) -> bool {
     if text.len() > SHORT {
         return false;
@@ -48,7 +46,7 @@ fn stages_have_order(alloc: Global, stages: &[Stage], order: &[u32]) -> bool {
     if stages.len() > SHORT {
         return false;
     }
-    match Graph::make(alloc, stages, NO_TRACKS, &[], &[]) {
+    match Graph::make(alloc, stages, &[], &[], &[]) {
         Ok(graph) => graph.order() == order && brings(alloc, &graph, &[0], order),
         Err(_) => false,
     }
@@ -82,7 +80,7 @@ fn stages_are_refused(alloc: Global, stages: &[Stage], kind: FaultKind) -> bool 
     if stages.len() > SHORT {
         return false;
     }
-    match Graph::make(alloc, stages, NO_TRACKS, &[], &[]) {
+    match Graph::make(alloc, stages, &[], &[], &[]) {
         Ok(_) => false,
         Err(fault) => fault.kind() == kind,
     }
