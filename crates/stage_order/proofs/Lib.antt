@@ -3,3 +3,4 @@ pub mod SeatLemmas
 pub mod OrderLemmas
 pub mod TakenLemmas
 pub mod WalkLemmas
+pub mod ClosureLemmas

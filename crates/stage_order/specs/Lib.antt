@@ -2,3 +2,4 @@ pub mod Order
 pub mod Walk
 pub mod Brought
 pub mod Seated
+pub mod Closure
