@@ -6,5 +6,5 @@ mod read;
 mod write;
 
 pub use fault::ReadFault;
-pub use read::{TakesPieces, read_file, read_whole};
+pub use read::{Piece, TakesPieces, read_file, read_whole};
 pub use write::{begin_write, write_bytes};

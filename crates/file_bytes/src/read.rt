@@ -1,11 +1,11 @@
 // A file of the workspace, read a piece at a time.
-ghost use Rattle.std.specs.Prelude.{◌≡◌, ◌<◌, ◌≤◌, ℕ, List, [], ◌++◌, length, IsTrue, IfOk, IfErr, OnOk, IsErrOf, Some, vec_len};
+ghost use Rattle.std.specs.Prelude.{◌≡◌, ◌<◌, ◌≤◌, ℕ, Bool, true, List, [], ◌++◌, length, IsTrue, IfOk, IfErr, OnOk, OnErr, IsErrOf, Some, vec_len};
 ghost use Rattle.world_api.specs.Tree.{item_at, file};
 ghost use Rattle.world_api.specs.Calls.{IsFileAt};
 ghost use Rattle.world_api.specs.Outside.{tree_of, IsUntouched};
 ghost use Rattle.world_api.specs.History.{IsCaused};
 ghost use Rattle.file_bytes.specs.Reading.{IsTold, HasTaken, HoldsFile, HoldsFront, HasAdded, IsChange, IsChangeAfter, IsFree};
-ghost use Rattle.file_bytes.specs.declared.fault.ReadFault.TheVariants.{Failed as Blamed};
+ghost use Rattle.file_bytes.specs.declared.fault.ReadFault.TheVariants.{Failed as Blamed, NoMemory as Starved};
 
 use crate::ReadFault;
 use dvc_base::{NoMemory, Rel};
@@ -15,21 +15,37 @@ use world_api::ReadFiles;
 // How many bytes are asked for at once.
 const PIECE: usize = 65_536;
 
-// A file of fewer bytes is read into a smaller buffer, since each buffer is cleared first.
-const FEW: usize = 4_096;
+/// A buffer for one piece of a file. Many files are read through one, since each new one is cleared first.
+#[derive(Drop)]
+pub struct Piece {
+    bytes: [u8; PIECE],
+}
+
+impl Piece {
+    /// A buffer of its own, which takes no memory of the heap.
+    pub fn new() -> Piece {
+        Piece { bytes: [0; PIECE] }
+    }
+}
 
 /// What takes the bytes of a file, a piece at a time.
 pub trait TakesPieces {
     /// Whether these are the bytes that it took so far.
     ghost holds: { Self → List ℕ → Type 0 };
 
+    /// Whether taking a piece may run out of memory.
+    ghost grows: { Bool };
+
     fn take(&mut self, piece: &[u8]) -> Result<(), NoMemory>
         ensures taken { (bytes : List ℕ) →
-            Self.holds self.old bytes → OnOk result (Self.holds self.new (bytes ++ piece.now)) };
+            Self.holds self.old bytes → OnOk result (Self.holds self.new (bytes ++ piece.now)) }
+        ensures grown { OnErr result (IsTrue Self.grows) };
 }
 
 impl TakesPieces for Vec<u8> {
     ghost holds = { λ text bytes. text.items ≡ bytes };
+
+    ghost grows = { true };
 
     fn take(&mut self, piece: &[u8]) -> Result<(), NoMemory> {
         self.extend_from_slice(piece)?;
@@ -42,6 +58,7 @@ pub fn read_file<F: ReadFiles, T: TakesPieces>(
     files: &mut F,
     at: &Rel,
     size: u64,
+    piece: &mut Piece,
     taker: &mut T,
 ) -> Result<(), ReadFault>
     requires told { IsTrue F.tells → IsTold (item_at (tree_of (F.history files.old)) at.now) size }
@@ -50,10 +67,11 @@ pub fn read_file<F: ReadFiles, T: TakesPieces>(
         (HoldsFile (T.holds taker.new) (item_at (tree_of (F.history files.old)) at.now)) }
     ensures taken { OnOk result (HasTaken (T.holds taker.new) size) }
     ensures changed { IfErr result (IsChangeAfter F.tells (T.holds taker.new) size) }
+    ensures grown { IsErrOf result Starved → IsTrue T.grows }
     ensures unchanged { IsUntouched F.tells (F.history files.old) (F.history files.new) }
     ensures cause { IsCaused (F.faults files.old) (F.faults files.new) (IsErrOf result Blamed) }
 {
-    let found = read_front(files, at, size.saturating_add(1), taker)?;
+    let found = read_pieces(files, at, size.saturating_add(1), &mut piece.bytes, taker)?;
     if found != size {
         return Err(ReadFault::Changed { told: size, found });
     }
@@ -76,33 +94,12 @@ pub fn read_whole<F: ReadFiles>(
     ensures cause { IsCaused (F.faults files.old) (F.faults files.new) (IsErrOf result Blamed) }
 {
     let mut text = Vec::new(alloc);
-    read_file(files, at, size, &mut text)?;
+    read_file(files, at, size, &mut Piece::new(), &mut text)?;
     Ok(text)
 }
 
-// Gives the first bytes of a file to what takes them: all, or as many as are wanted at the most. It answers how many.
-fn read_front<F: ReadFiles, T: TakesPieces>(
-    files: &mut F,
-    at: &Rel,
-    most: u64,
-    taker: &mut T,
-) -> Result<u64, ReadFault>
-    requires file { IsTrue F.tells → IsFileAt (tree_of (F.history files.old)) at.now }
-    requires empty { T.holds taker.old [] }
-    ensures within { IfOk result (λ count. count ≤ most) }
-    ensures read { IfOk result
-        (HoldsFront F.tells (item_at (tree_of (F.history files.old)) at.now) most (T.holds taker.new)) }
-    ensures free { IfErr result IsFree }
-    ensures unchanged { IsUntouched F.tells (F.history files.old) (F.history files.new) }
-    ensures cause { IsCaused (F.faults files.old) (F.faults files.new) (IsErrOf result Blamed) }
-{
-    if most <= FEW as u64 {
-        return read_pieces(files, at, most, &mut [0u8; FEW], taker);
-    }
-    read_pieces(files, at, most, &mut [0u8; PIECE], taker)
-}
-
-// The same, by pieces that fill the buffer.
+// Gives the first bytes of a file to what takes them, by pieces that fill the buffer: all, or as many as are wanted at
+// the most. It answers how many.
 fn read_pieces<F: ReadFiles, T: TakesPieces>(
     files: &mut F,
     at: &Rel,
@@ -117,6 +114,7 @@ fn read_pieces<F: ReadFiles, T: TakesPieces>(
     ensures read { IfOk result
         (HoldsFront F.tells (item_at (tree_of (F.history files.old)) at.now) most (T.holds taker.new)) }
     ensures free { IfErr result IsFree }
+    ensures grown { IsErrOf result Starved → IsTrue T.grows }
     ensures unchanged { IsUntouched F.tells (F.history files.old) (F.history files.new) }
     ensures cause { IsCaused (F.faults files.old) (F.faults files.new) (IsErrOf result Blamed) }
 {
@@ -146,6 +144,7 @@ fn read_piece<F: ReadFiles, T: TakesPieces>(
         HasAdded F.tells (item_at (tree_of (F.history files.old)) at.now) from (length piece.old)
         (T.holds taker.new) bytes count) }
     ensures free { IfErr result IsFree }
+    ensures grown { IsErrOf result Starved → IsTrue T.grows }
     ensures unchanged { IsUntouched F.tells (F.history files.old) (F.history files.new) }
     ensures cause { IsCaused (F.faults files.old) (F.faults files.new) (IsErrOf result Blamed) }
 {

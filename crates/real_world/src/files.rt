@@ -1,14 +1,16 @@
 // The files of a real folder.
 ghost use Rattle.std.specs.Prelude.{◌≡◌, ◌≢◌, ◌≤◌, false, [], length, IfOk};
 ghost use Rattle.dvc_base.specs.Path.{under};
-ghost use Rattle.world_api.specs.Writes.{lane_path};
+ghost use Rattle.world_api.specs.Calls.{AreNames};
+ghost use Rattle.world_api.specs.Layout.{lane_path};
 ghost use Rattle.real_world.specs.Counting.{Counts};
 
 use crate::RealWorld;
-use dvc_base::{Failed, Rel};
+use dvc_base::{Failed, Rel, Texts};
+use std::alloc::Global;
 use std::process::Processes;
 use std::rt::Runtime;
-use world_api::{Files, Kind, ReadFiles};
+use world_api::{Files, Kind, ListFault, ReadFiles};
 
 // Each call answers for its count alone. What the trait says of a failure's cause follows from that, and
 // the rest of what it says holds where a world tells what it holds.
@@ -29,6 +31,15 @@ impl<R: Runtime + Processes + Send> ReadFiles for RealWorld<R> {
         self.failures.counted(count)
     }
 
+    fn list(&mut self, alloc: Global, at: &Rel) -> Result<Texts, ListFault>
+        ensures good { IfOk result AreNames }
+        ensures counted { Counts self.old.failures.count self.new.failures.count result }
+    {
+        self.folder.forget();
+        let names = self.folder.list(alloc, at);
+        self.failures.counted_names(names)
+    }
+
     ghost use Rattle.std.proofs.lemmas.Bool.{false≢true};
 
     ghost stands = { λ world told. absurd (false≢true told) };
@@ -41,6 +52,14 @@ impl<R: Runtime + Processes + Send> Files for RealWorld<R> {
     {
         let removed = self.folder.clear(at);
         self.failures.counted(removed)
+    }
+
+    fn make_folder(&mut self, at: &Rel) -> Result<(), Failed>
+        ensures counted { Counts self.old.failures.count self.new.failures.count result }
+    {
+        self.folder.forget();
+        let made = self.folder.make_folder(at);
+        self.failures.counted(made)
     }
 
     fn begin(&mut self, lane: u32) -> Result<(), Failed>

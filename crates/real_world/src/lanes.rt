@@ -1,12 +1,13 @@
 // The lanes of a real folder, in which new bytes stand until they are published.
+use crate::findings::in_memory;
 use crate::folder::{Folder, remove_place, sync};
-use dvc_base::{NoMemory, Rel};
+use dvc_base::Rel;
 use std::fs::{OpenFile, OpenOptions};
 use std::io::{ErrorKind, Write};
 use std::os::unix::fs::MetadataExt;
 use std::rt::Runtime;
 use std::{fs, io};
-use world_api::{Kind, dvc_path, lane_path, tmp_path};
+use world_api::{dvc_path, lane_path, tmp_path};
 
 /// The lane that was begun last. It stays open, so that its bytes stand in one file, whoever else begins
 /// a lane of that number meanwhile.
@@ -29,7 +30,7 @@ impl<R: Runtime> Folder<R> {
 
     /// Puts the bytes at the end of the lane.
     pub(crate) fn append(&mut self, lane: u32, bytes: &[u8]) -> io::Result<()> {
-        self.forget();
+        self.forget_lane();
         if let Some(open) = &mut self.lane {
             if open.number == lane {
                 return open.file.write_all(bytes);
@@ -113,42 +114,29 @@ impl<R: Runtime> Folder<R> {
     }
 
     fn tmp_place(&self) -> io::Result<String> {
-        let at = made(tmp_path(self.alloc))?;
+        let at = in_memory(tmp_path(self.alloc))?;
         Ok(self.place(&at)?)
     }
 
     // A file at the folder of the lanes gives way to it; one at the folder above is an error, since it is
     // none of the tool's.
     fn make_lanes_folder(&self) -> io::Result<()> {
-        let tmp = made(tmp_path(self.alloc))?;
+        let tmp = in_memory(tmp_path(self.alloc))?;
         self.make_tmp(&tmp)
     }
 
     fn make_tmp(&self, tmp: &Rel) -> io::Result<()> {
-        if self.look(tmp)? == Kind::Folder {
+        if self.stands(tmp)? {
             return Ok(());
         }
         self.make_tools_folder()?;
         self.remove(tmp)?;
-        self.make_folder(tmp)
+        self.make(tmp)
     }
 
     fn make_tools_folder(&self) -> io::Result<()> {
-        let dvc = made(dvc_path(self.alloc))?;
+        let dvc = in_memory(dvc_path(self.alloc))?;
         self.make_if_missing(&dvc)
-    }
-
-    fn make_if_missing(&self, at: &Rel) -> io::Result<()> {
-        if self.look(at)? == Kind::Folder {
-            return Ok(());
-        }
-        self.make_folder(at)
-    }
-
-    fn make_folder(&self, at: &Rel) -> io::Result<()> {
-        let place = self.place(at)?;
-        fs::create_dir(&self.rt, place.as_str())?;
-        self.sync_above(at)
     }
 
     // What stands there is removed first: a link would lead elsewhere, and a file with a second name, or in
@@ -171,11 +159,7 @@ impl<R: Runtime> Folder<R> {
     }
 
     fn lane_place(&self, lane: u32) -> io::Result<String> {
-        let at = made(lane_path(self.alloc, lane))?;
+        let at = in_memory(lane_path(self.alloc, lane))?;
         Ok(self.place(&at)?)
     }
-}
-
-fn made(path: Result<Rel, NoMemory>) -> io::Result<Rel> {
-    path.map_err(|_| io::Error::from(ErrorKind::OutOfMemory))
 }

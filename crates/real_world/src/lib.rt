@@ -2,8 +2,8 @@
 //!
 //! What a file holds, what a command does and in which order the disk keeps what was written can't be
 //! proved, since no clause of std speaks of it: so these worlds tell nothing, and the tests of `world_suite`
-//! stand in. What is proved is safety, that each failure is counted once and nothing else is, and what
-//! is made of each answer of std.
+//! stand in. What is proved is safety, that each failure is counted once and nothing else is, what is made
+//! of each answer of std, and that what is listed are names in order.
 #![tactic(auto)]
 
 mod commands;
@@ -12,6 +12,9 @@ mod files;
 mod findings;
 mod folder;
 mod lanes;
+mod listing;
+mod making;
+mod names;
 mod programs;
 mod reading;
 mod sink;

@@ -7,6 +7,9 @@ use std::io::{ErrorKind, Read, Seek, SeekFrom};
 use std::rt::Runtime;
 use std::{fs, io};
 
+// What the path of each lane begins with.
+const LANES: &str = ".dvc/tmp/";
+
 #[derive(Drop)]
 pub(crate) struct Reading<F> {
     text: String,
@@ -38,6 +41,17 @@ impl<R: Runtime> Folder<R> {
             self.reading = Some(self.open(at)?);
         }
         Ok(())
+    }
+
+    /// Lets go what was read last where that is a lane. Any other file stays open, so that one which is copied is opened once.
+    pub(crate) fn forget_lane(&mut self) {
+        let is_lane = match &self.reading {
+            Some(reading) => reading.text.as_str().starts_with(LANES),
+            None => false,
+        };
+        if is_lane {
+            self.forget();
+        }
     }
 
     fn is_open(&self, at: &Rel) -> bool {

@@ -12,7 +12,7 @@ use Rattle.std.proofs.lemmas.List.{length-take-le, length-append}
 use Rattle.std.proofs.lemmas.Grind.{common_steps}
 use Rattle.dvc_base.specs.Path.{Path, under}
 use Rattle.dvc_base.proofs.PathLemmas.{under-trans, under-append, under-length}
-use Rattle.world_api.specs.Tree.{Tree, Item, folder, path_cmp, item_at, IsTree}
+use Rattle.world_api.specs.Tree.{Tree, Item, folder, path_cmp, item_at, IsRelPath, IsTree}
 use Rattle.world_api.specs.Calls.{parent}
 
 -- ---- the order of paths
@@ -147,6 +147,7 @@ pub tree-empty : IsTree empty
 tree-empty = record {
   rootless = get-empty path_cmp [];
   parents = λ p c some. absurd (false≢true (sym (ap is_some (get-empty path_cmp (p ++ c ∷ []))) ∙ some));
+  paths = λ p some. absurd (false≢true (sym (ap is_some (get-empty path_cmp p)) ∙ some));
 }
 
 get_retained_none : (t : Tree) (test : Path → Bool) (p : Path) → get t p ≡ None → get (retain_keys t test) p ≡ None
@@ -174,6 +175,11 @@ tree-without t at is =
                 ∙ is.parents p c (ap is_some (sym (get_kept t test (p ++ c ∷ []) e)) ∙ some)
             | false ↦ λ e. absurd (absent _ (get_gone t test (p ++ c ∷ []) e) some)
           ] refl;
+      paths = λ p some.
+          elim (test p) as (λ b. test p ≡ b → IsRelPath p) [
+            | true ↦ λ e. is.paths p (ap is_some (sym (get_kept t test p e)) ∙ some)
+            | false ↦ λ e. absurd (absent _ (get_gone t test p e) some)
+          ] refl;
     }
 
 put_parents : (t : Tree) (q : Path) (i : Item) → IsTree t → q ≢ [] → item_at t (parent q) ≡ Some folder → ((c : List ℕ) → IsSome (get t (q ++ c ∷ [])) → i ≡ folder) → (p : Path) (c : List ℕ) → IsSome (get (insert t q i) (p ++ c ∷ [])) → ((p ++ c ∷ [] ≡ q) ⊎ (p ++ c ∷ [] ≢ q)) → ((p ≡ q) ⊎ (p ≢ q)) → item_at (insert t q i) p ≡ Some folder
@@ -189,10 +195,15 @@ put_parents t q i is ne above below p c some (inr other) (inr apart) =
     item_put_other t q i p apart
     ∙ is.parents p c (ap is_some (sym (get_put_other t q i (p ++ c ∷ []) other)) ∙ some)
 
+put_paths : (t : Tree) (q : Path) (i : Item) → IsTree t → IsRelPath q → (p : Path) → IsSome (get (insert t q i) p) → ((p ≡ q) ⊎ (p ≢ q)) → IsRelPath p
+put_paths t q i is place p some (inl e) = subst IsRelPath (sym e) place
+put_paths t q i is place p some (inr apart) = is.paths p (ap is_some (sym (get_put_other t q i p apart)) ∙ some)
+
 -- with an item at a path whose parent is a folder; a file only where nothing lies below
-pub tree-put : (t : Tree) (q : Path) (i : Item) → IsTree t → q ≢ [] → item_at t (parent q) ≡ Some folder → ((c : List ℕ) → IsSome (get t (q ++ c ∷ [])) → i ≡ folder) → IsTree (insert t q i)
-tree-put t q i is ne above below =
+pub tree-put : (t : Tree) (q : Path) (i : Item) → IsTree t → IsRelPath q → q ≢ [] → item_at t (parent q) ≡ Some folder → ((c : List ℕ) → IsSome (get t (q ++ c ∷ [])) → i ≡ folder) → IsTree (insert t q i)
+tree-put t q i is place ne above below =
     record {
       rootless = get_put_other t q i [] (λ e. ne (sym e)) ∙ is.rootless;
       parents = λ p c some. put_parents t q i is ne above below p c some (path_cases (p ++ c ∷ []) q) (path_cases p q);
+      paths = λ p some. put_paths t q i is place p some (path_cases p q);
     }

@@ -1,7 +1,10 @@
 -- What each call of the traits does, relative to its start.
 use Rattle.std.specs.Prelude.{◌≡◌, ◌≢◌, ◌⊎◌, ℕ, ℤ, pos, ◌-◌, ◌≤◌, Bool, true, false, ◌&&◌, not, List, [], ◌∷◌, ◌++◌, length, take, drop, map, Option, Some, None, IfSome, Result, Ok, Err, is_ok, ◌==◌, ⊤}
 use Rattle.std.specs.List.{list_all, AllByRecursion}
+use Rattle.std.specs.Ordering.{nat_cmp, is_lt}
+use Rattle.std.specs.Cmp.Lexicographic.{slice_cmp}
 use Rattle.dvc_base.specs.Path.{Path, under, overlap}
+use Rattle.dvc_base.specs.Normal.{IsNormal}
 use Rattle.dvc_base.specs.Join.{join}
 use Rattle.world_api.specs.Tree.{Tree, Item, folder, file, Value, item_at, value_at}
 use Rattle.world_api.specs.Effect.{Outcome, fails, gives, out_paths, invocation_of, is_in_any}
@@ -30,6 +33,16 @@ pub record IsRead (bytes : List ℕ) (from : ℕ) (old new : List ℕ) (count : 
 abbrev pub ReadsFrom : Option Item → ℕ → List ℕ → List ℕ → ℕ → Type 0
 ReadsFrom (Some (file bytes)) from old new count = IsRead bytes from old new count
 ReadsFrom _ from old new count = ⊤
+
+-- names of members: each may be a component, and they rise in the order of their bytes
+abbrev pub are_rising : List (List ℕ) → Bool
+are_rising [] = true
+are_rising (a ∷ []) = true
+are_rising (a ∷ b ∷ cs) = is_lt (slice_cmp nat_cmp a b) && are_rising (b ∷ cs)
+
+pub record AreNames (names : List (List ℕ)) : Type 0 where
+  pub each : IsNormal names
+  pub rise : are_rising names ≡ true
 
 -- after a clear: nothing stands at or below the path, and that is on the disk
 pub record IsCleared (at : Path) (n : Moment) : Type 0 where

@@ -5,14 +5,16 @@ use Rattle.std.specs.Prelude.{ℕ, ℤ, Bool, List, [], ◌∷◌, map, Result, 
 use Rattle.std.specs.List.{list_any}
 use Rattle.dvc_base.specs.Path.{Path, under}
 use Rattle.dvc_base.specs.Join.{join}
+use Rattle.dvc_base.specs.declared.data.ParamFile.{ParamFile}
 use Rattle.dvc_base.specs.declared.path.PathFault.{PathFault}
 use Rattle.world_api.specs.Tree.{Tree, Value, value_at}
 use Rattle.world_api.specs.declared.job.Job.{Job}
 
--- the commands, each dependency's text with the value at it, and the outputs' texts
+-- the commands, each dependency's text with the value at it, the parameters, and the outputs' texts
 pub record Invocation : Type 0 where
   pub commands : List (List ℕ)
   pub deps : List (List ℕ × Value)
+  pub params : List ParamFile
   pub outs : List (List ℕ)
 
 pub data Outcome : Type 0 where
@@ -39,7 +41,7 @@ given_values t dir [] = []
 given_values t dir (d ∷ ds) = (d, value_at t (path_from dir d)) ∷ given_values t dir ds
 
 abbrev pub invocation_of : Job → Tree → Invocation
-invocation_of job t = record { commands = job.commands; deps = given_values t job.dir job.deps; outs = job.outs }
+invocation_of job t = record { commands = job.commands; deps = given_values t job.dir job.deps; params = job.params; outs = job.outs }
 
 -- whether a path is at or below one of the paths
 abbrev pub is_in_any : List Path → Path → Bool

@@ -1,13 +1,17 @@
 -- Trees of files and folders, and the values that stand in them.
 --     item_at t p       what stands at a path; the root is a folder
 --     value_at t p      Nothing, the bytes of a file, or the files below a folder
---     IsTree t          each member's parent is a folder
-use Rattle.std.specs.Prelude.{◌≡◌, ℕ, List, [], ◌∷◌, ◌++◌, length, drop, Option, Some, None, IsSome, if◌then◌else◌}
+--     names_in t p      the names of what stands directly in a folder
+--     IsRelPath p       a path that a workspace may have: in normal form, and not too long
+--     IsTree t          each member's parent is a folder, and its path is one that a workspace may have
+use Rattle.std.specs.Prelude.{◌≡◌, ◌≤◌, ℕ, List, [], ◌∷◌, ◌++◌, length, drop, Option, Some, None, IsSome, bytes_eq, if◌then◌else◌}
+use Rattle.std.specs.List.{flat_map}
 use Rattle.std.specs.Ordering.{nat_cmp}
 use Rattle.std.specs.Cmp.Lexicographic.{slice_cmp}
 use Rattle.std.specs.declared.cmp.Ordering.{Ordering}
 use Rattle.std.specs.FinMap.{FinMap, get, entries, from_entries}
-use Rattle.dvc_base.specs.Path.{Path, under}
+use Rattle.dvc_base.specs.Path.{Path, under, joined}
+use Rattle.dvc_base.specs.Normal.{IsNormal}
 
 pub data Item : Type 0 where
   folder : Item
@@ -25,9 +29,24 @@ abbrev pub item_at : Tree → Path → Option Item
 item_at t [] = Some folder
 item_at t (c ∷ p) = get t (c ∷ p)
 
+pub record IsRelPath (p : Path) : Type 0 where
+  pub normal : IsNormal p
+  pub short : length (joined p) ≤ 1024
+
 pub record IsTree (t : Tree) : Type 0 where
   pub rootless : get t [] ≡ None
   pub parents : (p : Path) (c : List ℕ) → IsSome (get t (p ++ c ∷ [])) → item_at t p ≡ Some folder
+  pub paths : (p : Path) → IsSome (get t p) → IsRelPath p
+
+-- the name of a path that lies directly in a folder
+abbrev pub name_below : Path → Path → List (List ℕ)
+name_below [] (c ∷ []) = c ∷ []
+name_below (b ∷ p) (c ∷ q) = if bytes_eq b c then name_below p q else []
+name_below _ _ = []
+
+-- the names of what stands directly in a folder, in the order of their bytes
+abbrev pub names_in : Tree → Path → List (List ℕ)
+names_in t p = flat_map (λ e. name_below p e.0) (entries t)
 
 -- the value at a path. Empty folders inside a folder aren't seen
 pub data Value : Type 0 where

@@ -1,6 +1,7 @@
 -- What the writing calls do, relative to their start. A lane is a file below `.dvc/tmp`, in which new bytes stand until they are published at their path.
 --     InBegin, InAppend, InSettle, InPublish             each moment of a call
 --     IsBegun, IsAppended, IsSettled, IsPublished        what Ok leaves
+--     InMakeFolder                                       each moment while a folder and those above it are made
 --     InScratch                                          while nothing has been published
 --     InWrite                                            while a file's bytes are put in place of what stood there
 -- A lane holds anything after a call on it that failed, so no clause speaks of it there.
@@ -102,6 +103,20 @@ pub record InPublish (lane : ℕ) (at : Path) (m n : Moment) : Type 0 where
 pub record IsPublished (lane : ℕ) (at : Path) (m n : Moment) : Type 0 where
   pub moved : IsMoved lane at m n
   pub gone : (p : Path) → under (lane_path lane) p ≡ true → item_at n.tree p ≡ None
+
+-- ---- folders
+
+-- no file stands at the path or above it
+abbrev pub HasRoad : Path → Tree → Type 0
+HasRoad at t = (q : Path) → under q at ≡ true → IsNoFileAt t q
+
+abbrev pub IsFolderAt : Tree → Path → Type 0
+IsFolderAt t at = item_at t at ≡ Some folder
+
+-- the path and each one above it are as they were, or are folders where nothing stood
+pub record InMakeFolder (at : Path) (m n : Moment) : Type 0 where
+  pub road : (q : Path) → under q at ≡ true → IsMade q m n
+  pub others : Keeps (λ q. under q at) m n
 
 -- ---- calls in a row
 

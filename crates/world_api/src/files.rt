@@ -1,15 +1,17 @@
 // The files of the workspace, as the tool reads, clears and writes them.
-ghost use Rattle.std.specs.Prelude.{◌≡◌, ◌≢◌, ◌≤◌, false, [], length, IsTrue, IfOk, OnOk};
+ghost use Rattle.std.specs.Prelude.{◌≡◌, ◌≢◌, ◌≤◌, false, [], length, IsTrue, IsErrOf, IfOk, OnOk};
 ghost use Rattle.dvc_base.specs.Path.{under};
-ghost use Rattle.world_api.specs.Tree.{item_at};
-ghost use Rattle.world_api.specs.History.{HasCause};
+ghost use Rattle.world_api.specs.Tree.{item_at, names_in};
+ghost use Rattle.world_api.specs.History.{HasCause, IsCaused};
 ghost use Rattle.world_api.specs.Outside.{tree_of, IsUntouched, PassesFrom, HasTrees};
 ghost use Rattle.world_api.specs.Layout.{dvc_path, lane_path};
-ghost use Rattle.world_api.specs.Calls.{kind_of, IsFileAt, ReadsFrom, IsCleared, InClear};
-ghost use Rattle.world_api.specs.Writes.{IsNoFileAt, HasRoom, IsFirmLane, InBegin, IsBegun, InAppend, IsAppended, InSettle, IsSettled, InPublish, IsPublished};
+ghost use Rattle.world_api.specs.Calls.{kind_of, IsFileAt, ReadsFrom, AreNames, IsCleared, InClear};
+ghost use Rattle.world_api.specs.declared.files.ListFault.TheVariants.{Failed as Unlisted};
+ghost use Rattle.world_api.specs.Writes.{IsNoFileAt, HasRoad, IsFolderAt, InMakeFolder, HasRoom, IsFirmLane, InBegin, IsBegun, InAppend, IsAppended, InSettle, IsSettled, InPublish, IsPublished};
 
 use crate::Ground;
-use dvc_base::{Failed, Rel};
+use dvc_base::{Failed, NoMemory, Rel, Texts};
+use std::alloc::Global;
 
 /// What stands at a path.
 #[derive(Clone, Copy, Debug, PartialEq, Eq)]
@@ -18,6 +20,26 @@ pub enum Kind {
     /// A file, with the number of its bytes.
     File { size: u64 },
     Folder,
+}
+
+/// Why the names in a folder were not told.
+#[derive(Clone, Copy, Debug, PartialEq, Eq)]
+pub enum ListFault {
+    /// The call failed.
+    Failed,
+    /// Memory ran out.
+    NoMemory,
+}
+
+impl From<NoMemory> for ListFault {
+    ghost use Rattle.std.specs.Prelude.{◌≡◌};
+    ghost use Rattle.world_api.specs.declared.files.ListFault.TheVariants.{NoMemory as Memory};
+
+    ghost from_gives = { λ _ fault. fault ≡ Memory };
+
+    fn from(_: NoMemory) -> ListFault {
+        ListFault::NoMemory
+    }
 }
 
 /// What reads the files and folders below the repository's root, and changes nothing. Nobody else writes there during a
@@ -40,7 +62,17 @@ pub trait ReadFiles: Ground {
         ensures unchanged { IsUntouched Self.tells (Self.history self.old) (Self.history self.new) }
         ensures cause { HasCause (Self.faults self.old) (Self.faults self.new) result };
 
-    /// At each moment that is told, the parent of each member is a folder.
+    /// The names of what stands directly in the folder, in the order of their bytes. It changes nothing.
+    fn list(&mut self, alloc: Global, at: &Rel) -> Result<Texts, ListFault>
+        requires { IsTrue Self.tells → IsFolderAt (tree_of (Self.history self.old)) at.now }
+        ensures told { IsTrue Self.tells → IfOk result (λ names.
+            names ≡ names_in (tree_of (Self.history self.old)) at.now) }
+        ensures good { IfOk result AreNames }
+        ensures unchanged { IsUntouched Self.tells (Self.history self.old) (Self.history self.new) }
+        ensures cause { IsCaused (Self.faults self.old) (Self.faults self.new) (IsErrOf result Unlisted) };
+
+    /// At each moment that is told, the parent of each member is a folder, and its path is one that a workspace
+    /// may have.
     ghost stands: { (world : Self) → IsTrue Self.tells → HasTrees (Self.history world) };
 }
 
@@ -52,6 +84,14 @@ pub trait Files: ReadFiles {
         ensures cleared { IsTrue Self.tells → OnOk result (IsCleared at.now (Self.history self.new).present) }
         ensures moments { IsTrue Self.tells →
             PassesFrom (InClear at.now) (Self.history self.old) (Self.history self.new) }
+        ensures cause { HasCause (Self.faults self.old) (Self.faults self.new) result };
+
+    /// Makes the folder, and all that are missing above it. It changes nothing else.
+    fn make_folder(&mut self, at: &Rel) -> Result<(), Failed>
+        requires { IsTrue Self.tells → HasRoad at.now (tree_of (Self.history self.old)) }
+        ensures made { IsTrue Self.tells → OnOk result (IsFolderAt (tree_of (Self.history self.new)) at.now) }
+        ensures moments { IsTrue Self.tells →
+            PassesFrom (InMakeFolder at.now) (Self.history self.old) (Self.history self.new) }
         ensures cause { HasCause (Self.faults self.old) (Self.faults self.new) result };
 
     /// Makes the lane an empty file, in place of what stands there, which may be lost in a stop. It makes the folders

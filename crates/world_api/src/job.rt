@@ -1,7 +1,7 @@
 // One run of a stage's commands.
 ghost use Rattle.std.specs.Prelude.{◌≡◌, IfOk};
 
-use dvc_base::{NoMemory, Plain, Rel, Text, Texts};
+use dvc_base::{NoMemory, ParamFiles, Plain, Rel, Text, Texts};
 use std::alloc::Global;
 
 /// What a stage asks to be run: its commands, one after another in its folder, with what it declares.
@@ -12,6 +12,8 @@ pub struct Job {
     /// The folder in which the commands run, and from which the paths below are read.
     pub dir: Rel,
     pub deps: Texts,
+    /// The parameters that the stage tracks, with their values.
+    pub params: ParamFiles,
     pub outs: Texts,
 }
 
@@ -22,6 +24,7 @@ impl Plain for Job {
             commands: self.commands.copy(alloc)?,
             dir: self.dir.copy(alloc)?,
             deps: self.deps.copy(alloc)?,
+            params: self.params.copy(alloc)?,
             outs: self.outs.copy(alloc)?,
         })
     }

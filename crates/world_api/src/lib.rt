@@ -10,7 +10,7 @@ mod layout;
 mod shell;
 mod sink;
 
-pub use files::{Files, Kind, ReadFiles};
+pub use files::{Files, Kind, ListFault, ReadFiles};
 pub use ground::Ground;
 pub use job::{Exit, Job};
 pub use layout::{dvc_path, lane_path, lock_path, tmp_path, yaml_path};

@@ -1,9 +1,9 @@
 -- Each piece lengthens what was taken, and none ends it.
-use Rattle.std.proofs.Common.{◌≡◌, ℕ, ◌≤◌, ◌+◌, ◌<◌, length, rules, arith, refl, sym, ap, subst, IsTrue}
+use Rattle.std.proofs.Common.{◌≡◌, ℕ, rules, arith, refl, ap, subst}
 use Rattle.std.proofs.lemmas.Grind.{common_steps}
 use Rattle.world_api.specs.Tree.{item_at}
 use Rattle.world_api.specs.History.{History}
-use Rattle.file_bytes.specs.Reading.{HoldsFront, HasAdded}
+use Rattle.file_bytes.specs.Reading.{HoldsFront}
 use Rattle.file_bytes.proofs.ReadLemmas.{front_none, front_more, front_end}
 use Rattle.file_bytes.proofs.read.read_pieces.Goals as goal
 
