@@ -6,7 +6,7 @@ use Rattle.std.proofs.lemmas.List.{get_or_past}
 use Rattle.md5.specs.Md5.{md5}
 use Rattle.hex.specs.Hex.{IsBytes, decode_of, encode_lower}
 use Rattle.hex.proofs.HexLemmas.{decode_of-encode_lower}
-use Rattle.file_hash.specs.Naming.{name_of_bytes}
+use Rattle.file_hash.specs.Listing.{name_of_bytes}
 use Rattle.file_hash.proofs.HashLemmas.{md5-bytes}
 
 bytes_at : (xs : List ℕ) (i : ℕ) → All (λ b. b < 256) xs → (i < length xs) ⊎ (length xs ≤ i) → slice_index xs i < 256
@@ -23,6 +23,8 @@ same_bytes xs ys a b e =
     let both : Ok xs ≡ Ok ys = sym first ∙ ap decode_of e ∙ second in
     cc
 
+pub same_digits : (x y : List ℕ) → encode_lower (md5 x) ≡ encode_lower (md5 y) → md5 x ≡ md5 y
+same_digits x y e = same_bytes (md5 x) (md5 y) (are_bytes (md5 x) (md5-bytes x)) (are_bytes (md5 y) (md5-bytes y)) e
+
 pub same_digest : (x y : List ℕ) → name_of_bytes x ≡ name_of_bytes y → md5 x ≡ md5 y
-same_digest x y e =
-    same_bytes (md5 x) (md5 y) (are_bytes (md5 x) (md5-bytes x)) (are_bytes (md5 y) (md5-bytes y)) (ap (λ n. n.digits) e)
+same_digest x y e = same_digits x y (ap (λ n. n.digits) e)

@@ -8,7 +8,7 @@ use Rattle.std.specs.Int.{to_le_bytes}
 use Rattle.md5.proofs.StandardFacts.{length-md5}
 use Rattle.hex.specs.Hex.{lower_digits, encode_with, encode_lower}
 use Rattle.hex.proofs.HexLemmas.{length-encode_with}
-use Rattle.file_hash.specs.Naming.{name_of_bytes}
+use Rattle.file_hash.specs.Listing.{name_of_bytes}
 use Rattle.dvc_base.specs.Name.{is_digit, are_digits}
 
 -- each of the sixteen digits is one
