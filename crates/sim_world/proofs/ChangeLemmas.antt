@@ -11,8 +11,9 @@ use Rattle.world_api.proofs.TreeLemmas.{item_kept, item_gone}
 use Rattle.sim_world.specs.Applied.{tree_changed, jobs_changed, tree_after, jobs_after}
 use Rattle.sim_world.specs.Call.{Makes, IsSame, Counts, risen, Counted}
 use Rattle.sim_world.specs.Change.{changed, cleared, grown, replay}
+use Rattle.sim_world.specs.Stands.{changed_tree}
 use Rattle.sim_world.specs.declared.change.Change.{Change}
-use Rattle.sim_world.specs.declared.change.Change.TheVariants.{Edited, Cleared, Started, Left, Ran, FolderMade, Written, Settled, Published}
+use Rattle.sim_world.specs.declared.change.Change.TheVariants.{Edited, Cleared, Started, Left, Ran, FolderMade, Written, Settled, Published, Met}
 
 pub replay-append : (h : History) (cs ds : List Change) → replay h (cs ++ ds) ≡ replay (replay h cs) ds
 replay-append h [] ds = refl
@@ -29,17 +30,6 @@ pub jobs_after-push : (jobs : List Job) (cs : List Change) (c : Change) → jobs
 jobs_after-push jobs [] c = refl
 jobs_after-push jobs (d ∷ cs) c = jobs_after-push (jobs_changed d jobs) cs c
 
-changed_tree : (c : Change) (m : Moment) → (changed c m).tree ≡ tree_changed c m.tree
-changed_tree (Edited at value) m = refl
-changed_tree (Cleared at) m = refl
-changed_tree (Started job) m = refl
-changed_tree (Left at value) m = refl
-changed_tree (Ran job) m = refl
-changed_tree (FolderMade at) m = refl
-changed_tree (Written lane value) m = refl
-changed_tree (Settled lane) m = refl
-changed_tree (Published lane at value) m = refl
-
 changed_jobs : (c : Change) (m : Moment) → (changed c m).aside.fixed.ran ≡ jobs_changed c m.aside.fixed.ran
 changed_jobs (Edited at value) m = refl
 changed_jobs (Cleared at) m = refl
@@ -50,6 +40,7 @@ changed_jobs (FolderMade at) m = refl
 changed_jobs (Written lane value) m = refl
 changed_jobs (Settled lane) m = refl
 changed_jobs (Published lane at value) m = refl
+changed_jobs (Met at) m = refl
 
 pub replay_tree : (h : History) (cs : List Change) → (replay h cs).present.tree ≡ tree_after h.present.tree cs
 replay_tree h [] = refl

@@ -1,38 +1,40 @@
 -- What the changes of a run leave, and what they pass on the way.
 use Rattle.std.proofs.Common.{◌≡◌, ◌≢◌, ℕ, ◌+◌, ◌<◌, ℤ, pos, Bool, true, false, cond, not, ◌||◌, List, [], ◌∷◌, ◌++◌, length, take, drop, get_or, map, refl, sym, ap, ◌∙◌, subst, inl, inr, arith, append_assoc, Option, Some, Ok, Err, Result, OnErr, IfOk, IsErr, MatchResult, IfSome}
-use Rattle.std.specs.Prelude.{⊤}
+use Rattle.std.specs.Prelude.{⊤, bytes_eq, None}
+use Rattle.std.specs.FinMap.{get}
 use Rattle.std.specs.List.{AllByRecursion}
 use Rattle.std.specs.Ordering.{int_eq}
 use Rattle.std.specs.Cmp.{signed_Decides}
-use Rattle.std.proofs.lemmas.Bool.{false≢true, and_parts, or_left, or_right, or_parts, not-true, not_from_true, not_from_false, false_from_ne_true}
+use Rattle.std.proofs.lemmas.Bool.{false≢true, and_parts, or_cases, or_left, or_right, or_parts, not-true, not_from_true, not_from_false, false_from_ne_true}
 use Rattle.std.proofs.lemmas.List.{take_more, take-append-drop, drop_more, append-nil, length-append, map-append}
 use Rattle.dvc_base.specs.Path.{Path, under, overlap}
-use Rattle.dvc_base.proofs.PathLemmas.{under-refl, under-trans}
-use Rattle.world_api.specs.Tree.{Tree, folder, file, Value as Told, value_at, value_of, item_at}
+use Rattle.dvc_base.proofs.PathLemmas.{under-refl, under-trans, under-append, under-overlap}
+use Rattle.world_api.specs.Tree.{Tree, folder, Value as Told, value_at, item_at}
 use Rattle.world_api.specs.Effect.{Effect, fails, gives, path_from, out_paths, invocation_of, is_in_any, given_values}
 use Rattle.world_api.specs.History.{Moment, History, Passes, KeepsPaths, Stays, itself, ran_too}
 use Rattle.world_api.specs.Calls.{parent, is_apart, are_apart, is_runnable, HasFolders, Meets, nowhere, HasLooseOuts, IsRun, InRun}
 use Rattle.world_api.specs.declared.job.Job.{Job}
 use Rattle.world_api.specs.declared.job.Exit.{Exit}
 use Rattle.world_api.proofs.HistoryLemmas.{stays_itself, stays_then, keeps_paths_itself, passes_none, passes_same}
-use Rattle.world_api.proofs.TreeLemmas.{item_kept, item_gone, item_put_same, item_put_other, under_parent, cons_not_root}
-use Rattle.sim_world.specs.Answer.{told, plain_value, plain_values, found, found_all, answered, outcome_of, effect_of, unmade}
+use Rattle.world_api.proofs.TreeLemmas.{item_kept, get_gone, under_parent, cons_not_root}
+use Rattle.sim_world.specs.Answer.{told, plain_value, plain_values, found, found_all, given_by, answered, outcome_of, effect_of, unmade}
 use Rattle.sim_world.specs.Applied.{tree_changed, tree_after}
 use Rattle.sim_world.specs.Book.{with_met}
 use Rattle.sim_world.specs.Call.{Makes, IsSame}
-use Rattle.sim_world.specs.Change.{changed, grown, replay, history_of, opened, started, with_job, IsFront}
+use Rattle.sim_world.specs.Change.{dep_values, changed, grown, replay, history_of, opened, started, with_job, IsFront}
 use Rattle.sim_world.specs.Edits.{without, left_tree, place, has_place}
 use Rattle.sim_world.specs.Run.{left_outs, out_changes, run_changes, Answers, RunsBy}
-use Rattle.sim_world.specs.Stands.{has_place-from}
+use Rattle.sim_world.specs.Good.{IsGood, AreGood}
 use Rattle.sim_world.specs.Step.{Step}
 use Rattle.sim_world.specs.declared.value.Value.{Value}
-use Rattle.sim_world.specs.declared.value.Value.TheVariants.{Nothing, File}
 use Rattle.sim_world.specs.declared.value.PathValue.{PathValue}
 use Rattle.sim_world.specs.declared.rule.Given.{Given}
 use Rattle.sim_world.specs.declared.rule.Made.{Made}
 use Rattle.sim_world.specs.declared.change.Change.{Change}
-use Rattle.sim_world.specs.declared.change.Change.TheVariants.{Edited, Cleared, Started, Left, Ran, FolderMade, Written, Settled, Published}
+use Rattle.sim_world.specs.declared.change.Change.TheVariants.{Edited, Cleared, Started, Left, Ran, FolderMade, Written, Settled, Published, Met}
 use Rattle.sim_world.proofs.BookLemmas.{stays_met}
+use Rattle.sim_world.proofs.FolderLemmas.{has_place-from, place_other}
+use Rattle.sim_world.proofs.PlaceTree.{item_get, bare_without, place-value}
 use Rattle.sim_world.proofs.ChangeLemmas.{Along, passes_along, replay-push, replay_tree}
 
 -- ---- steps of loops
@@ -114,7 +116,7 @@ quiet_started : (job : Job) (m : Moment) → Quiet job m (started job m)
 quiet_started job m = record {
   paths = record { items = λ p e. refl; loose = λ p e. ap (λ (b : Bool). b || m.loose p) e };
   outs = λ p u. ap (λ (b : Bool). b || m.loose p) u;
-  aside = stays_itself m.aside;
+  aside = stays_met (dep_values job m.tree) m.aside;
 }
 
 quiet_ran : (job : Job) (m n : Moment) → Quiet job m n → InRun job m (with_job job n)
@@ -136,14 +138,8 @@ outside job at p out e = false_from_ne_true (under at p) (λ u. false≢true (sy
 
 pub left_other : (at : Path) (value : Value) (t : Tree) (p : Path) → under at p ≡ false → item_at (left_tree at value t) p ≡ item_at t p
 left_other at value t p apart =
-    let test : Path → Bool = λ q. not (under at q) in
-    let kept : item_at (without at t) p ≡ item_at t p = item_kept t test p (not_from_false (under at p) apart) in
-    let ne : p ≢ at = λ s. false≢true (sym apart ∙ ap (under at) s ∙ under-refl at) in
     elim (has_place t at) as (λ b. item_at (cond b (place at value (without at t)) t) p ≡ item_at t p) [
-      | true ↦ elim value as (λ v. item_at (place at v (without at t)) p ≡ item_at t p) [
-        | Nothing ↦ kept
-        | File bytes ↦ item_put_other (without at t) at (file bytes) p ne ∙ kept
-      ]
+      | true ↦ place_other at value (without at t) p apart ∙ item_kept t (λ q. not (under at q)) p (not_from_false (under at p) apart)
       | false ↦ refl
     ]
 
@@ -154,7 +150,7 @@ quiet_left job m at value out n q = record {
     loose = λ p e. ap (λ (b : Bool). b || n.loose p) (outside job at p out e) ∙ q.paths.loose p e;
   };
   outs = λ p u. or_right (under at p) (n.loose p) (q.outs p u);
-  aside = stays_then itself m.aside n.aside (with_met value n.aside) q.aside (stays_met value n.aside);
+  aside = stays_then itself m.aside n.aside (with_met (told value ∷ []) n.aside) q.aside (stays_met (told value ∷ []) n.aside);
 }
 
 all_quiet : (job : Job) (m : Moment) (change : Path → List ℕ → Change) → ((at : Path) (out : List ℕ) → IsOut job at → IsQuiet job m (change at out)) → (outs : List (List ℕ)) → ((p : Path) → is_in_any (map (path_from job.dir) outs) p ≡ true → is_in_any (out_paths job) p ≡ true) → AllByRecursion (IsQuiet job m) (map (λ out. change (path_from job.dir out) out) outs)
@@ -257,32 +253,58 @@ above_kept p v t (q ∷ qs) e all =
       above_kept p v t qs so.2 all.1,
     )
 
-lefts_other : (dir : Path) (made : Made) (outs : List (List ℕ)) (t : Tree) (p : Path) → is_apart p (map (path_from dir) outs) ≡ true → item_at (tree_after t (lefts dir made outs)) p ≡ item_at t p
-lefts_other dir made [] t p e = refl
-lefts_other dir made (o ∷ outs) t p e =
-    let so = apart_parts p (path_from dir o) (map (path_from dir) outs) e in
-    lefts_other dir made outs (left_tree (path_from dir o) (found made.outs o) t) p so.2
-    ∙ left_other (path_from dir o) (found made.outs o) t p so.1
+-- what stands at or below a path stays as it is where others are left
+SameBelow : Path → Tree → Tree → Type 0
+SameBelow p k t = (x : Path) → get k (p ++ x) ≡ get t (p ++ x)
 
-place_value : (p : Path) (v : Value) (t k : Tree) → p ≢ [] → item_at k p ≡ item_at (place p v (without p t)) p → value_at k p ≡ told v
-place_value p Nothing t k ne e =
-    ap (value_of k p) (e ∙ item_gone t (λ q. not (under p q)) p ne (not_from_true (under p p) (under-refl p)))
-place_value p (File bytes) t k ne e = ap (value_of k p) (e ∙ item_put_same (without p t) p (file bytes) ne)
+left_apart : (at p : Path) (v : Value) (t : Tree) → at ≢ [] → p ≢ [] → under at p ≡ false → under p at ≡ false → SameBelow p (left_tree at v t) t
+unfolding SameBelow
+left_apart at p v t na np out above x =
+    let ne : (p ++ x) ≢ [] = λ s. np (front_none p x s) in
+    let far : under at (p ++ x) ≡ false =
+    false_from_ne_true (under at (p ++ x)) (λ u. elim (or_cases (under at p) (under p at) (under-overlap at p (p ++ x) u (under-append p x))) [
+      | inl a ↦ false≢true (sym out ∙ a)
+      | inr a ↦ false≢true (sym above ∙ a)
+    ]) in
+    sym (item_get (left_tree at v t) (p ++ x) ne) ∙ left_other at v t (p ++ x) far ∙ item_get t (p ++ x) ne
+  where
+    front_none : (p x : Path) → p ++ x ≡ [] → p ≡ []
+    front_none [] x s = refl
+    front_none (c ∷ p) x s = absurd (cc)
 
-left_value : (p : Path) (v : Value) (t k : Tree) → p ≢ [] → item_at t (parent p) ≡ Some folder → item_at k p ≡ item_at (left_tree p v t) p → value_at k p ≡ told v
-left_value p v t k ne above e =
-    place_value p v t k ne (e ∙ ap (λ (b : Bool). item_at (cond b (place p v (without p t)) t) p) (has_place-from t p ne above))
+lefts_apart : (dir : Path) (made : Made) (outs : List (List ℕ)) (t : Tree) (p : Path) → p ≢ [] → is_apart p (map (path_from dir) outs) ≡ true → are_apart (map (path_from dir) outs) ≡ true → SameBelow p (tree_after t (lefts dir made outs)) t
+unfolding SameBelow
+lefts_apart dir made [] t p np e all x = refl
+lefts_apart dir made (o ∷ outs) t p np e all x =
+    let at : Path = path_from dir o in
+    let so = apart_parts p at (map (path_from dir) outs) e in
+    let parts = and_parts (is_apart at (map (path_from dir) outs)) (are_apart (map (path_from dir) outs)) all in
+    lefts_apart dir made outs (left_tree at (found made.outs o) t) p np so.2 parts.1 x
+    ∙ left_apart at p (found made.outs o) t (apart_root at (map (path_from dir) outs) parts.0) np so.1 so.0 x
 
-values_left : (dir : Path) (made : Made) (outs : List (List ℕ)) (t : Tree) → are_apart (map (path_from dir) outs) ≡ true → AllByRecursion (StandsAbove t) (map (path_from dir) outs) → map (value_at (tree_after t (lefts dir made outs))) (map (path_from dir) outs) ≡ map told (found_all outs made)
-values_left dir made [] t e all = refl
-values_left dir made (o ∷ outs) t e all =
+found_good : (es : List PathValue) (o : List ℕ) → AreGood es → IsGood (found es o)
+found_good [] o all = tt
+found_good (e ∷ es) o all =
+    elim (bytes_eq e.path o) as (λ b. IsGood (cond b e.value (found es o))) [ true ↦ all.0 | false ↦ found_good es o all.1 ]
+
+left_value : (p : Path) (v : Value) (t k : Tree) → IsGood v → p ≢ [] → item_at t (parent p) ≡ Some folder → SameBelow p k (left_tree p v t) → value_at k p ≡ told v
+unfolding SameBelow
+left_value p v t k good ne above same =
+    let gone : get (without p t) p ≡ None = get_gone t (λ q. not (under p q)) p (not_from_true (under p p) (under-refl p)) in
+    place-value p v (without p t) k good ne gone (bare_without p t)
+    (λ x. same x ∙ ap (λ (b : Bool). get (cond b (place p v (without p t)) t) (p ++ x)) (has_place-from t p ne above))
+
+values_left : (dir : Path) (made : Made) (outs : List (List ℕ)) (t : Tree) → AreGood made.outs → are_apart (map (path_from dir) outs) ≡ true → AllByRecursion (StandsAbove t) (map (path_from dir) outs) → map (value_at (tree_after t (lefts dir made outs))) (map (path_from dir) outs) ≡ map told (found_all outs made)
+values_left dir made [] t good e all = refl
+values_left dir made (o ∷ outs) t good e all =
     let p : Path = path_from dir o in
     let v : Value = found made.outs o in
     let paths : List Path = map (path_from dir) outs in
     let parts = and_parts (is_apart p paths) (are_apart paths) e in
+    let ne : p ≢ [] = apart_root p paths parts.0 in
     let here : value_at (tree_after (left_tree p v t) (lefts dir made outs)) p ≡ told v =
-    left_value p v t _ (apart_root p paths parts.0) all.0 (lefts_other dir made outs (left_tree p v t) p parts.0) in
-    let later = values_left dir made outs (left_tree p v t) parts.1 (above_kept p v t paths parts.0 all.1) in
+    left_value p v t _ (found_good made.outs o good) ne all.0 (lefts_apart dir made outs (left_tree p v t) p ne parts.0 parts.1) in
+    let later = values_left dir made outs (left_tree p v t) good parts.1 (above_kept p v t paths parts.0 all.1) in
     λ j. here j ∷ later j
 
 -- ---- the outcome
@@ -297,6 +319,7 @@ changed_effect (FolderMade at) m = refl
 changed_effect (Written lane value) m = refl
 changed_effect (Settled lane) m = refl
 changed_effect (Published lane at value) m = refl
+changed_effect (Met at) m = refl
 
 replay_effect : (h : History) (cs : List Change) → (replay h cs).present.aside.fixed.effect ≡ h.present.aside.fixed.effect
 replay_effect h [] = refl
@@ -322,12 +345,12 @@ meets outs code made values is =
       | false ↦ λ e. (int_zero code e, refl)
     ] refl
 
-run_meets : (effect : Given → Made → Step) (job : Job) (code : ℤ) (made : Made) (t : Tree) → is_runnable job ≡ true → HasFolders job t → answered effect (plain_values (given_values t job.dir job.deps)) job.outs job.commands (record { outs = unmade job.outs }) ≡ record { code = code; made = made } → Meets (effect_of effect (invocation_of job t)) code (map (value_at (tree_after t (run_changes job code made))) (out_paths job))
-run_meets effect job code made t runs folders did =
+run_meets : (effect : Given → Made → Step) (job : Job) (code : ℤ) (made : Made) (t : Tree) → AreGood made.outs → is_runnable job ≡ true → HasFolders job t → answered effect (given_by (invocation_of job t)) job.commands (record { outs = unmade job.outs }) ≡ record { code = code; made = made } → Meets (effect_of effect (invocation_of job t)) code (map (value_at (tree_after t (run_changes job code made))) (out_paths job))
+run_meets effect job code made t good runs folders did =
     let apart : are_apart (out_paths job) ≡ true = (and_parts _ (are_apart (out_paths job)) runs).1 in
     let values : Bool → List Told = λ b. map (value_at (tree_after t (cond b (left_outs job made) []))) (out_paths job) in
     let so : Meets (outcome_of job.outs (record { code = code; made = made })) code (values (int_eq code (pos 0))) =
-    meets job.outs code made values (values_left job.dir made job.outs t apart folders.above) in
+    meets job.outs code made values (values_left job.dir made job.outs t good apart folders.above) in
     subst (λ (v : List Told). Meets (effect_of effect (invocation_of job t)) code v)
     (ap (λ (k : Tree). map (value_at k) (out_paths job)) (sym (run_tree job code made t)))
     (subst (λ (step : Step). Meets (outcome_of job.outs step) code (values (int_eq code (pos 0)))) (sym did) so)
@@ -349,7 +372,7 @@ run_done effect job code made h runs folders told_effect did = record {
   outcome =
       subst (λ (o : Option Effect). IfSome o (λ e. Meets (e (invocation_of job h.present.tree)) code (map (value_at (replay h (run_changes job code made)).present.tree) (out_paths job)))) (sym told_effect)
       (subst (λ (k : Tree). Meets (effect_of effect (invocation_of job h.present.tree)) code (map (value_at k) (out_paths job))) (sym (replay_tree h (run_changes job code made)))
-      (run_meets effect job code made h.present.tree runs folders did));
+      (run_meets effect job code made h.present.tree did.1 runs folders did.0));
 }
 
 -- ---- what a run makes, as the trait says it
@@ -388,6 +411,6 @@ runs_counted effect job (Err e) (Ok x) old new same made = absurd (false≢true 
 runs_counted effect job (Err e) (Err f) old new same made = made
 
 -- what the code answered, where nothing was made before, is what is told
-pub answered_so : (effect : Given → Made → Step) (job : Job) (t k : Tree) (made0 : Made) (step : Step) → answered effect (plain_values (given_values k job.dir job.deps)) job.outs job.commands made0 ≡ step → k ≡ t → made0.outs ≡ unmade job.outs → answered effect (plain_values (given_values t job.dir job.deps)) job.outs job.commands (record { outs = unmade job.outs }) ≡ step
+pub answered_so : (effect : Given → Made → Step) (job : Job) (t k : Tree) (made0 : Made) (step : Step) → answered effect (given_by (invocation_of job k)) job.commands made0 ≡ step → k ≡ t → made0.outs ≡ unmade job.outs → answered effect (given_by (invocation_of job t)) job.commands (record { outs = unmade job.outs }) ≡ step
 answered_so effect job t k made0 step did e m =
-    sym (λ j. answered effect (plain_values (given_values (e j) job.dir job.deps)) job.outs job.commands (record { outs = m j })) ∙ did
+    sym (λ j. answered effect (given_by (invocation_of job (e j))) job.commands (record { outs = m j })) ∙ did

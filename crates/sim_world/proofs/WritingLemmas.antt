@@ -1,5 +1,5 @@
 -- The writing calls in memory: what each leaves, and what it passes on the way.
-use Rattle.std.proofs.Common.{◌≡◌, ◌≢◌, ℕ, Bool, false, cond, not, ◌&&◌, ◌||◌, List, [], ◌++◌, refl, sym, ap, subst, ◌∙◌, inl, inr, Option, Some, None, Result, Ok, Err, OnOk}
+use Rattle.std.proofs.Common.{◌≡◌, ◌≢◌, ℕ, Bool, false, cond, not, ◌&&◌, ◌||◌, List, [], ◌∷◌, ◌++◌, refl, sym, ap, subst, ◌∙◌, inl, inr, Option, Some, None, Result, Ok, Err, OnOk}
 use Rattle.std.specs.Prelude.{is_some, codes}
 use Rattle.std.specs.FinMap.{insert}
 use Rattle.std.specs.Fmt.{decimal}
@@ -15,14 +15,15 @@ use Rattle.world_api.proofs.HistoryLemmas.{keeps_then, keeps_in, stays_itself, p
 use Rattle.world_api.proofs.TreeLemmas.{item_kept, item_gone, item_put_same, item_put_other}
 use Rattle.world_api.proofs.LaneLemmas.{at_itself, not_at, dvc_not_root, tmp_not_root, lane_not_root, dvc-parent, tmp-parent, lane-parent, dvc_above_lane, dvc_above_tmp, tmp_above_lane}
 use Rattle.world_api.proofs.WriteLemmas.{same_at, made_then_same, begin_itself, append_itself, settle_itself, publish_itself}
+use Rattle.sim_world.specs.Answer.{told}
 use Rattle.sim_world.specs.Call.{Makes, IsSame}
 use Rattle.sim_world.specs.Change.{grown, made, written, made_firm, published}
 use Rattle.sim_world.specs.Edits.{without, is_folder, has_place, place, left_tree, made_tree, published_tree}
-use Rattle.sim_world.specs.Stands.{has_place-from, folder_is}
 use Rattle.sim_world.specs.Writing.{held, lane_bytes, made_once, with_tmp, begun, IsBeginning, appended, firm, moved}
 use Rattle.sim_world.specs.declared.value.Value.{Value}
 use Rattle.sim_world.specs.declared.value.Value.TheVariants.{File}
 use Rattle.sim_world.proofs.BookLemmas.{stays_met}
+use Rattle.sim_world.proofs.FolderLemmas.{has_place-from, folder_is}
 use Rattle.sim_world.proofs.ChangeLemmas.{below_not_root, passes_one, one_passes, one_left}
 use Rattle.sim_world.proofs.RunLemmas.{left_other}
 
@@ -36,7 +37,7 @@ made_other at t p out =
     cond_both (has_place t at) (insert t at folder) t (λ (k : Tree). item_at k p ≡ item_at t p)
     (λ _. item_put_other t at folder p (apart_from at p out)) (λ _. refl)
 
-made_keeps : (at : Path) (m : Moment) → Keeps (is_at at) m (made at m)
+pub made_keeps : (at : Path) (m : Moment) → Keeps (is_at at) m (made at m)
 made_keeps at m = record {
   paths = record {
     items = λ p out. made_other at m.tree p out;
@@ -45,7 +46,7 @@ made_keeps at m = record {
   aside = stays_itself m.aside;
 }
 
-made_new : (at : Path) (m : Moment) → at ≢ [] → item_at m.tree (parent at) ≡ Some folder → IsNewFolder at (made at m)
+pub made_new : (at : Path) (m : Moment) → at ≢ [] → item_at m.tree (parent at) ≡ Some folder → IsNewFolder at (made at m)
 made_new at m ne above = record {
   stands = ap (λ (b : Bool). item_at (cond b (insert m.tree at folder) m.tree) at) (has_place-from m.tree at ne above) ∙ item_put_same m.tree at folder ne;
   firm = ap (λ (b : Bool). not b && m.loose at) (at_itself at);
@@ -72,7 +73,7 @@ lane_above lane t is stands = is.parents tmp_path (codes "new-" ++ decimal lane)
 
 -- ---- `begin`
 
-none_from : (o : Option Item) → is_folder o ≡ false → ((bytes : List ℕ) → o ≢ Some (file bytes)) → o ≡ None
+pub none_from : (o : Option Item) → is_folder o ≡ false → ((bytes : List ℕ) → o ≢ Some (file bytes)) → o ≡ None
 none_from None e no_file = refl
 none_from (Some folder) e no_file = absurd (false≢true (sym e))
 none_from (Some (file bytes)) e no_file = absurd (no_file bytes refl)
@@ -230,7 +231,7 @@ publish_keeps lane at value m = record {
         λ p out. let parts = or_parts (under (lane_path lane) p) (under at p) out in item_kept (left_tree at value m.tree) (λ q. not (under (lane_path lane) q)) p (not_from_false (under (lane_path lane) p) parts.0) ∙ left_other at value m.tree p parts.1;
     loose = λ p out. ap (λ (b : Bool). not b && m.loose p) (or_parts (under (lane_path lane) p) (under at p) out).1;
   };
-  aside = stays_met value m.aside;
+  aside = stays_met (told value ∷ []) m.aside;
 }
 
 moved_one : {T E : Type 0} (r : Result T E) (lane : ℕ) (at : Path) (h h' : History) → Makes r (moved lane at) IsSame h h' → Makes r (grown (published lane at (File (lane_bytes lane h.present.tree)))) IsSame h h'

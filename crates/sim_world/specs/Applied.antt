@@ -5,7 +5,7 @@ use Rattle.world_api.specs.declared.job.Job.{Job}
 use Rattle.world_api.specs.Layout.{lane_path}
 use Rattle.sim_world.specs.Edits.{without, edited_tree, left_tree, made_tree, published_tree}
 use Rattle.sim_world.specs.declared.change.Change.{Change}
-use Rattle.sim_world.specs.declared.change.Change.TheVariants.{Edited, Cleared, Started, Left, Ran, FolderMade, Written, Settled, Published}
+use Rattle.sim_world.specs.declared.change.Change.TheVariants.{Edited, Cleared, Started, Left, Ran, FolderMade, Written, Settled, Published, Met}
 
 abbrev pub tree_changed : Change → Tree → Tree
 tree_changed (Edited at value) t = edited_tree at value t
@@ -17,6 +17,7 @@ tree_changed (FolderMade at) t = made_tree at t
 tree_changed (Written lane value) t = left_tree (lane_path lane) value t
 tree_changed (Settled lane) t = t
 tree_changed (Published lane at value) t = published_tree (lane_path lane) at value t
+tree_changed (Met at) t = t
 
 abbrev pub jobs_changed : Change → List Job → List Job
 jobs_changed (Ran job) jobs = jobs ++ job ∷ []

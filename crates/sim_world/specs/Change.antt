@@ -1,19 +1,20 @@
 -- The changes of a world in memory, and the history that they make.
 --     changed c m        the moment after a change
 --     replay h cs        the history after changes, each of which is one moment
-use Rattle.std.specs.Prelude.{◌≡◌, ℕ, ◌++◌, Bool, false, not, ◌&&◌, ◌||◌, List, [], ◌∷◌, Some}
+use Rattle.std.specs.Prelude.{◌≡◌, ℕ, ◌++◌, Bool, false, not, ◌&&◌, ◌||◌, List, [], ◌∷◌, map, Some}
 use Rattle.dvc_base.specs.Path.{Path, under}
-use Rattle.world_api.specs.Tree.{Tree}
-use Rattle.world_api.specs.Effect.{Effect, out_paths, is_in_any}
+use Rattle.world_api.specs.Tree.{Tree, Value as Told, value_at}
+use Rattle.world_api.specs.Effect.{Effect, given_values, out_paths, is_in_any}
 use Rattle.world_api.specs.History.{Moment, History, ran_too}
 use Rattle.world_api.specs.Layout.{lane_path}
 use Rattle.world_api.specs.Writes.{is_at}
 use Rattle.world_api.specs.declared.job.Job.{Job}
+use Rattle.sim_world.specs.Answer.{told}
 use Rattle.sim_world.specs.Book.{book_of, with_met}
 use Rattle.sim_world.specs.Edits.{without, edited_tree, is_edited, left_tree, made_tree, published_tree}
 use Rattle.sim_world.specs.declared.value.Value.{Value}
 use Rattle.sim_world.specs.declared.change.Change.{Change}
-use Rattle.sim_world.specs.declared.change.Change.TheVariants.{Edited, Cleared, Started, Left, Ran, FolderMade, Written, Settled, Published}
+use Rattle.sim_world.specs.declared.change.Change.TheVariants.{Edited, Cleared, Started, Left, Ran, FolderMade, Written, Settled, Published, Met}
 
 -- loose as before, but for an area
 abbrev pub settled : (Path → Bool) → (Path → Bool) → Path → Bool
@@ -26,20 +27,27 @@ abbrev pub edited : Path → Value → Moment → Moment
 edited at value m = record m {
   tree = edited_tree at value m.tree;
   loose = settled (is_edited at value m.tree) m.loose;
-  aside = with_met value m.aside;
+  aside = with_met (told value ∷ []) m.aside;
 }
 
 abbrev pub cleared : Path → Moment → Moment
 cleared at m = record m { tree = without at m.tree; loose = settled (under at) m.loose }
 
+-- the values at a job's dependencies
+abbrev pub dep_values : Job → Tree → List Told
+dep_values job t = map (λ d. d.1) (given_values t job.dir job.deps)
+
 abbrev pub started : Job → Moment → Moment
-started job m = record m { loose = loosened (is_in_any (out_paths job)) m.loose }
+started job m = record m {
+  loose = loosened (is_in_any (out_paths job)) m.loose;
+  aside = with_met (dep_values job m.tree) m.aside;
+}
 
 abbrev pub left : Path → Value → Moment → Moment
 left at value m = record m {
   tree = left_tree at value m.tree;
   loose = loosened (under at) m.loose;
-  aside = with_met value m.aside;
+  aside = with_met (told value ∷ []) m.aside;
 }
 
 abbrev pub with_job : Job → Moment → Moment
@@ -61,8 +69,11 @@ abbrev pub published : ℕ → Path → Value → Moment → Moment
 published lane at value m = record m {
   tree = published_tree (lane_path lane) at value m.tree;
   loose = settled (under at) m.loose;
-  aside = with_met value m.aside;
+  aside = with_met (told value ∷ []) m.aside;
 }
+
+abbrev pub met_at : Path → Moment → Moment
+met_at at m = record m { aside = with_met (value_at m.tree at ∷ []) m.aside }
 
 abbrev pub changed : Change → Moment → Moment
 changed (Edited at value) m = edited at value m
@@ -74,6 +85,7 @@ changed (FolderMade at) m = made at m
 changed (Written lane value) m = written lane value m
 changed (Settled lane) m = made_firm lane m
 changed (Published lane at value) m = published lane at value m
+changed (Met at) m = met_at at m
 
 -- one moment more
 abbrev pub grown : (Moment → Moment) → History → History

@@ -1,9 +1,10 @@
 -- The commands that the test rule knows, answered as `sh` does.
 --     cat P              the bytes of the dependency P, at each output
 --     cat P > Q          the bytes of P, a dependency or an output made before, at the output Q
+--     copy P > Q         the value of the dependency P, a file or a folder, at the output Q
 --     printf %s X > Q    the bytes of X at the output Q
 --     exit N             the code N, in decimal digits, below 2^31
--- Any other text ends with 127; a P that is no file, and a Q that is no output, end with 1.
+-- Any other text ends with 127; a P that is no file (in `copy`, no file and no folder), and a Q that is no output, end with 1.
 use Rattle.std.specs.Prelude.{◌≡◌, ℕ, ℤ, pos, ◌+◌, ◌-◌, ◌*◌, ◌^◌, Bool, ◌&&◌, ◌||◌, not, List, [], ◌∷◌, length, map, ◌==◌, nat_le, nat_lt, bytes_eq, codes, Option, Some, None, Result, IfOk, if◌then◌else◌}
 use Rattle.std.specs.List.{list_any, list_all, slice_split}
 use Rattle.dvc_base.specs.declared.memory.NoMemory.{NoMemory}
@@ -11,7 +12,7 @@ use Rattle.world_api.specs.declared.job.Exit.{Exit}
 use Rattle.sim_world.specs.Answer.{found}
 use Rattle.sim_world.specs.Step.{Step}
 use Rattle.sim_world.specs.declared.value.Value.{Value}
-use Rattle.sim_world.specs.declared.value.Value.TheVariants.{Nothing, File}
+use Rattle.sim_world.specs.declared.value.Value.TheVariants.{Nothing, File, Files}
 use Rattle.sim_world.specs.declared.rule.Given.{Given}
 use Rattle.sim_world.specs.declared.rule.Made.{Made}
 
@@ -47,9 +48,9 @@ number_of (d ∷ e ∷ ds) = if d == 48 then None else number_from 0 (d ∷ e �
 abbrev pub ends : ℕ → Made → Step
 ends code made = record { code = pos code; made = made }
 
--- the bytes at an output, in place of those made before
-abbrev pub with_file : List ℕ → List ℕ → Made → Made
-with_file out bytes made = record { outs = record { path = out; value = File bytes } ∷ made.outs }
+-- the value at an output, in place of the one made before
+abbrev pub with_value : List ℕ → Value → Made → Made
+with_value out value made = record { outs = record { path = out; value = value } ∷ made.outs }
 
 abbrev pub is_out : Given → List ℕ → Bool
 is_out given path = list_any (λ out. bytes_eq out path) given.outs
@@ -57,6 +58,7 @@ is_out given path = list_any (λ out. bytes_eq out path) given.outs
 abbrev pub or_else : Value → Value → Value
 or_else Nothing value = value
 or_else (File bytes) value = File bytes
+or_else (Files m) value = Files m
 
 -- what was made at the path, or else the dependency
 abbrev pub source : Given → Made → List ℕ → Value
@@ -67,20 +69,31 @@ source given made path = or_else (found made.outs path) (found given.deps path)
 -- cat P
 abbrev pub fill : Given → Value → Made → Step
 fill given Nothing made = ends 1 made
+fill given (Files m) made = ends 1 made
 fill given (File bytes) made = ends 0 (record { outs = map (λ out. record { path = out; value = File bytes }) given.outs })
 
 abbrev pub copied : List ℕ → Value → Made → Step
 copied to Nothing made = ends 1 made
-copied to (File bytes) made = ends 0 (with_file to bytes made)
+copied to (File bytes) made = ends 0 (with_value to (File bytes) made)
+copied to (Files m) made = ends 1 made
 
 -- cat P > Q: the output is emptied before P is read
 abbrev pub copy : List ℕ → List ℕ → Given → Made → Step
 copy from to given made =
-    if is_out given to then copied to (source given (with_file to [] made) from) (with_file to [] made) else ends 1 made
+    if is_out given to then copied to (source given (with_value to (File []) made) from) (with_value to (File []) made) else ends 1 made
+
+-- copy P > Q
+abbrev pub copied_whole : List ℕ → Value → Made → Step
+copied_whole to Nothing made = ends 1 made
+copied_whole to (File bytes) made = ends 0 (with_value to (File bytes) made)
+copied_whole to (Files m) made = ends 0 (with_value to (Files m) made)
+
+abbrev pub copy_whole : List ℕ → List ℕ → Given → Made → Step
+copy_whole from to given made = if is_out given to then copied_whole to (found given.deps from) made else ends 1 made
 
 -- printf %s X > Q
 abbrev pub print : List ℕ → List ℕ → Given → Made → Step
-print text to given made = if is_out given to then ends 0 (with_file to text made) else ends 1 made
+print text to given made = if is_out given to then ends 0 (with_value to (File text) made) else ends 1 made
 
 -- exit N
 abbrev pub leave_code : Option ℕ → ℤ
@@ -101,11 +114,15 @@ of_two name arg given made =
     else if bytes_eq name (codes "exit") then leave (number_of arg) made
     else ends 127 made
 
-abbrev pub is_copy : List ℕ → List ℕ → List ℕ → List ℕ → Bool
-is_copy name from arrow to = bytes_eq name (codes "cat") && bytes_eq arrow (codes ">") && is_word from && is_word to
+-- a command's name, and two words with an arrow between them
+abbrev pub is_copy : List ℕ → List ℕ → List ℕ → List ℕ → List ℕ → Bool
+is_copy verb name from arrow to = bytes_eq name verb && bytes_eq arrow (codes ">") && is_word from && is_word to
 
 abbrev pub of_four : List ℕ → List ℕ → List ℕ → List ℕ → Given → Made → Step
-of_four name from arrow to given made = if is_copy name from arrow to then copy from to given made else ends 127 made
+of_four name from arrow to given made =
+    if is_copy (codes "cat") name from arrow to then copy from to given made
+    else if is_copy (codes "copy") name from arrow to then copy_whole from to given made
+    else ends 127 made
 
 abbrev pub is_print : List ℕ → List ℕ → List ℕ → List ℕ → List ℕ → Bool
 is_print name format text arrow to =

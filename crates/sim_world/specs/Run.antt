@@ -2,14 +2,15 @@
 --     MakesAll r cs old new     Ok made all of the changes, and Err a front of them
 use Rattle.std.specs.Prelude.{◌≡◌, ◌⊎◌, ℤ, pos, List, [], ◌∷◌, ◌++◌, map, Result, Ok, Err, if◌then◌else◌}
 use Rattle.std.specs.Ordering.{int_eq}
-use Rattle.world_api.specs.Effect.{path_from, given_values}
+use Rattle.world_api.specs.Effect.{path_from, invocation_of}
 use Rattle.world_api.specs.History.{History}
 use Rattle.world_api.specs.Outside.{tree_of}
 use Rattle.world_api.specs.declared.job.Exit.{Exit}
 use Rattle.world_api.specs.declared.job.Job.{Job}
-use Rattle.sim_world.specs.Answer.{answered, found, plain_values, unmade}
+use Rattle.sim_world.specs.Answer.{answered, found, given_by, unmade}
 use Rattle.sim_world.specs.Call.{Makes}
 use Rattle.sim_world.specs.Change.{replay, IsFront}
+use Rattle.sim_world.specs.Good.{AreGood}
 use Rattle.sim_world.specs.Step.{Step}
 use Rattle.sim_world.specs.declared.rule.Given.{Given}
 use Rattle.sim_world.specs.declared.rule.Made.{Made}
@@ -31,11 +32,11 @@ run_changes job code made = Started job ∷ (out_changes job code made ++ Ran jo
 abbrev pub MakesAll : {T E : Type 0} → Result T E → List Change → History → History → Type 0
 MakesAll r cs old new = Makes r (λ h. replay h cs) (IsFront cs) old new
 
--- the rule answers a job's commands with the code, and makes these values
+-- the rule answers a job's commands with the code, and makes these values, which are as the code makes them
 abbrev pub Answers : (Given → Made → Step) → Job → History → ℤ → Made → Type 0
 Answers effect job h code made =
-    answered effect (plain_values (given_values (tree_of h) job.dir job.deps)) job.outs job.commands (record { outs = unmade job.outs })
-    ≡ record { code = code; made = made }
+    (answered effect (given_by (invocation_of job (tree_of h))) job.commands (record { outs = unmade job.outs }) ≡ record { code = code; made = made })
+    × AreGood made.outs
 
 -- after an exit all was changed that the rule's answer changes; else nothing, or a front of that
 abbrev pub RunsBy : {E : Type 0} → (Given → Made → Step) → Job → Result Exit E → History → History → Type 0

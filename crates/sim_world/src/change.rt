@@ -2,6 +2,7 @@
 ghost use Rattle.std.specs.Prelude.{◌≡◌, ◌<◌, ◌++◌, ◌∷◌, [], OnOk, OnErr};
 ghost use Rattle.std.specs.Vec.{vec_len, vec_capacity};
 ghost use Rattle.world_api.specs.Layout.{lane_path};
+ghost use Rattle.world_api.specs.Tree.{IsTree};
 ghost use Rattle.sim_world.specs.Applied.{tree_changed, jobs_changed};
 ghost use Rattle.sim_world.specs.Edits.{left_tree, published_tree};
 
@@ -31,6 +32,8 @@ pub(crate) enum Change {
     Settled { lane: u32 },
     // The value moved from the lane to the path.
     Published { lane: u32, at: Rel, value: Value },
+    // The value at the path was met.
+    Met { at: Rel },
 }
 
 // Makes the change of the tree and the jobs, or nothing at all.
@@ -53,6 +56,7 @@ fn apply(alloc: Global, tree: &mut Tree, jobs: &mut Jobs, change: &Change) -> Re
         Change::Written { lane, value } => write_lane(alloc, tree, *lane, value),
         Change::Settled { lane: _ } => Ok(()),
         Change::Published { lane, at, value } => publish_lane(alloc, tree, *lane, at, value),
+        Change::Met { at: _ } => Ok(()),
     }
 }
 
@@ -100,8 +104,10 @@ pub(crate) fn record_change(
     ensures log_err { OnErr result (log.new.items ≡ log.old.items) }
     ensures tree_err { OnErr result (tree.new ≡ tree.old) }
     ensures jobs_err { OnErr result (jobs.new ≡ jobs.old) }
+    ensures trees { IsTree tree.new }
 {
     let answer = apply_with_room(alloc, log, tree, jobs, &change);
+    tree.check();
     put_last(log, change, answer)
 }
 

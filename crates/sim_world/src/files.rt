@@ -1,19 +1,22 @@
 // The files of a world in memory.
-ghost use Rattle.std.specs.Prelude.{◌≡◌, ◌≢◌, ◌≤◌, false, [], length, IfOk};
+ghost use Rattle.std.specs.Prelude.{◌≡◌, ◌≢◌, ◌≤◌, false, [], length, IfOk, IfErr};
 ghost use Rattle.dvc_base.specs.Path.{under};
-ghost use Rattle.world_api.specs.Tree.{item_at};
+ghost use Rattle.world_api.specs.Tree.{item_at, names_in};
+ghost use Rattle.world_api.specs.declared.files.ListFault.TheVariants.{NoMemory as Memory};
 ghost use Rattle.world_api.specs.Outside.{tree_of};
 ghost use Rattle.world_api.specs.Layout.{dvc_path, lane_path};
 ghost use Rattle.world_api.specs.Calls.{kind_of, IsFileAt, ReadsFrom, IsRead};
-ghost use Rattle.world_api.specs.Writes.{IsNoFileAt, HasRoom, IsFirmLane};
+ghost use Rattle.world_api.specs.Writes.{IsNoFileAt, HasRoad, IsFolderAt, HasRoom, IsFirmLane};
 ghost use Rattle.sim_world.specs.Call.{Makes, IsSame, Counted};
 ghost use Rattle.sim_world.specs.Change.{grown, cleared};
-ghost use Rattle.sim_world.specs.Writing.{begun, IsBeginning, appended, firm, moved};
+ghost use Rattle.sim_world.specs.Writing.{road_made, IsOnRoad, begun, IsBeginning, appended, firm, moved};
 
 use crate::change::Change;
+use crate::folder::names_in;
 use crate::{Rule, SimWorld};
-use dvc_base::{Failed, NoMemory, Plain, Rel};
-use world_api::{Files, Kind, ReadFiles};
+use dvc_base::{Failed, NoMemory, Plain, Rel, Texts};
+use std::alloc::Global;
+use world_api::{Files, Kind, ListFault, ReadFiles};
 
 impl<R: Rule> ReadFiles for SimWorld<R> {
     ghost use Rattle.sim_world.specs.World.{history_in, counts_in};
@@ -42,7 +45,19 @@ impl<R: Rule> ReadFiles for SimWorld<R> {
         }
     }
 
-    ghost stands = { λ w told. each_stands (effect_of R.effect) w.opening w.log.items w.opened };
+    // The names take the caller's memory. Where that is short, nothing has failed in the world, and nothing is counted.
+    fn list(&mut self, alloc: Global, at: &Rel) -> Result<Texts, ListFault>
+        requires { IsFolderAt (tree_of (history_in self.old)) at.now }
+        ensures told { IfOk result (λ names. names ≡ names_in (tree_of (history_in self.old)) at.now) }
+        ensures memory { IfErr result (λ fault. fault ≡ Memory) }
+        ensures unchanged { history_in self.new ≡ history_in self.old }
+        ensures count { counts_in self.new ≡ counts_in self.old }
+    {
+        let names = names_in(alloc, self.tree(), at)?;
+        Ok(names)
+    }
+
+    ghost stands = { λ w told. each_stands (effect_of R.effect) w.opening w.log.items w.trees };
 }
 
 // Each call says what history it makes. What the trait says of it follows from that.
@@ -56,6 +71,16 @@ impl<R: Rule> Files for SimWorld<R> {
         ensures count { Counted result (counts_in self.old) (counts_in self.new) }
     {
         let answer = self.log_clear(at);
+        self.counted(answer)
+    }
+
+    fn make_folder(&mut self, at: &Rel) -> Result<(), Failed>
+        requires { HasRoad at.now (tree_of (history_in self.old)) }
+        ensures made { Makes result (road_made (length at.now) at.now) (IsOnRoad at.now)
+            (history_in self.old) (history_in self.new) }
+        ensures count { Counted result (counts_in self.old) (counts_in self.new) }
+    {
+        let answer = self.log_road(at);
         self.counted(answer)
     }
 

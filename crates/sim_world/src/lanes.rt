@@ -1,10 +1,11 @@
 // The lanes of a world in memory, in which new bytes stand until they are published.
-ghost use Rattle.std.specs.Prelude.{◌≡◌, ◌++◌, IfOk};
+ghost use Rattle.std.specs.Prelude.{◌≡◌, ◌++◌, length, IfOk};
 ghost use Rattle.world_api.specs.Tree.{item_at};
 ghost use Rattle.sim_world.specs.Call.{Makes, IsSame};
-ghost use Rattle.sim_world.specs.Writing.{held, lane_bytes, made_once, with_tmp, begun, IsMakingTmp, IsBeginning, appended, moved};
+ghost use Rattle.sim_world.specs.Writing.{held, lane_bytes, made_once, road_made, IsOnRoad, with_tmp, begun, IsMakingTmp, IsBeginning, appended, moved};
 
 use crate::change::Change;
+use crate::paths::{is_root, parent_of};
 use crate::{Rule, SimWorld, Tree, Value};
 use dvc_base::{Bytes, NoMemory, Plain, Rel};
 use std::alloc::Global;
@@ -30,12 +31,12 @@ impl<R: Rule> SimWorld<R> {
             (history_in self.old) (history_in self.new) }
         ensures count { counts_in self.new ≡ counts_in self.old }
     {
-        self.make_folder(dvc_path(self.alloc())?)?;
-        self.make_folder(tmp_path(self.alloc())?)
+        self.make_missing(dvc_path(self.alloc())?)?;
+        self.make_missing(tmp_path(self.alloc())?)
     }
 
     // Makes the folder, where it doesn't stand.
-    fn make_folder(&mut self, at: Rel) -> Result<(), NoMemory>
+    fn make_missing(&mut self, at: Rel) -> Result<(), NoMemory>
         ensures made { Makes result (made_once at) IsSame
             (history_in self.old) (history_in self.new) }
         ensures count { counts_in self.new ≡ counts_in self.old }
@@ -44,6 +45,29 @@ impl<R: Rule> SimWorld<R> {
             return Ok(());
         }
         self.make(Change::FolderMade { at })
+    }
+
+    // Makes the folder, and those above it that are missing, from above down.
+    pub(crate) fn log_road(&mut self, at: &Rel) -> Result<(), NoMemory>
+        ensures made { Makes result (road_made (length at.now) at.now) (IsOnRoad at.now)
+            (history_in self.old) (history_in self.new) }
+        ensures count { counts_in self.new ≡ counts_in self.old }
+    {
+        if is_root(at) {
+            return Ok(());
+        }
+        let above = parent_of(self.alloc(), at)?;
+        self.log_road(&above)?;
+        self.make_last(at)
+    }
+
+    // Makes the folder, where it doesn't stand.
+    fn make_last(&mut self, at: &Rel) -> Result<(), NoMemory>
+        ensures made { Makes result (made_once at.now) IsSame
+            (history_in self.old) (history_in self.new) }
+        ensures count { counts_in self.new ≡ counts_in self.old }
+    {
+        self.make_missing(at.copy(self.alloc())?)
     }
 
     pub(crate) fn log_append(&mut self, lane: u32, bytes: &[u8]) -> Result<(), NoMemory>

@@ -3,7 +3,7 @@ ghost use Rattle.std.specs.Prelude.{◌≡◌, ◌==◌, ◌∷◌, ◌++◌, �
 ghost use Rattle.std.specs.List.{slice_split, list_all};
 ghost use Rattle.sim_world.specs.Answer.{found};
 ghost use Rattle.sim_world.specs.declared.value.Value.TheVariants.{File};
-ghost use Rattle.sim_world.specs.Pipe.{IsStep, is_digit, is_word_byte, is_word, number_from, number_of, leave_code, with_file, is_out, source, fill, copy, copied, print, leave, is_fill, is_copy, is_print, of_two, of_four, of_five, of_words, pipe};
+ghost use Rattle.sim_world.specs.Pipe.{IsStep, is_digit, is_word_byte, is_word, number_from, number_of, leave_code, with_value, is_out, source, fill, copy, copied, copy_whole, copied_whole, print, leave, is_fill, is_copy, is_print, of_two, of_four, of_five, of_words, pipe};
 
 use crate::value::find_value;
 use crate::{Given, Made, PathValue, PathValues, Rule, Value};
@@ -11,7 +11,7 @@ use dvc_base::{Bytes, NoMemory, Plain, Text};
 use std::alloc::{AllocError, Global};
 use world_api::Exit;
 
-/// Knows `cat P`, `cat P > Q`, `printf %s X > Q` and `exit N`.
+/// Knows `cat P`, `cat P > Q`, `copy P > Q`, `printf %s X > Q` and `exit N`.
 #[derive(Clone, Copy, Debug)]
 pub struct Pipe;
 
@@ -78,8 +78,11 @@ fn answer_four(
 ) -> Result<Exit, NoMemory>
     ensures told { IsStep (of_four name.now from.now arrow.now to.now given.now made.old) result made.new }
 {
-    if is_copy(name, from, arrow, to) {
+    if is_copy("cat", name, from, arrow, to) {
         return answer_copy(alloc, from, to, given, made);
+    }
+    if is_copy("copy", name, from, arrow, to) {
+        return answer_whole(alloc, from, to, given, made);
     }
     Ok(Exit { code: 127 })
 }
@@ -108,10 +111,10 @@ fn is_fill(name: &str, arg: &str) -> bool
     name == "cat" && is_word(arg)
 }
 
-fn is_copy(name: &str, from: &str, arrow: &str, to: &str) -> bool
-    ensures told { result ≡ is_copy name.now from.now arrow.now to.now }
+fn is_copy(verb: &str, name: &str, from: &str, arrow: &str, to: &str) -> bool
+    ensures told { result ≡ is_copy verb.now name.now from.now arrow.now to.now }
 {
-    name == "cat" && arrow == ">" && is_word(from) && is_word(to)
+    name == verb && arrow == ">" && is_word(from) && is_word(to)
 }
 
 fn is_print(name: &str, format: &str, text: &str, arrow: &str, to: &str) -> bool
@@ -186,6 +189,7 @@ fn answer_fill(alloc: Global, from: &str, given: &Given, made: &mut Made) -> Res
 {
     match find_value(alloc, &given.deps, from)? {
         Value::Nothing => Ok(Exit { code: 1 }),
+        Value::Files(_) => Ok(Exit { code: 1 }),
         Value::File(bytes) => {
             made.outs = filled(alloc, given.outs.as_slice(), &bytes)?;
             Ok(Exit { code: 0 })
@@ -234,8 +238,31 @@ fn answer_copy(
     put_file(alloc, to, &[], made)?;
     match source(alloc, given, made, from)? {
         Value::Nothing => Ok(Exit { code: 1 }),
+        Value::Files(_) => Ok(Exit { code: 1 }),
         Value::File(bytes) => {
             put_file(alloc, to, bytes.as_slice(), made)?;
+            Ok(Exit { code: 0 })
+        }
+    }
+}
+
+// `copy P > Q`
+fn answer_whole(
+    alloc: Global,
+    from: &str,
+    to: &str,
+    given: &Given,
+    made: &mut Made,
+) -> Result<Exit, NoMemory>
+    ensures told { IsStep (copy_whole from.now to.now given.now made.old) result made.new }
+{
+    if !is_out(given, to) {
+        return Ok(Exit { code: 1 });
+    }
+    match find_value(alloc, &given.deps, from)? {
+        Value::Nothing => Ok(Exit { code: 1 }),
+        value => {
+            put_value(alloc, to, value, made)?;
             Ok(Exit { code: 0 })
         }
     }
@@ -276,23 +303,34 @@ fn source(alloc: Global, given: &Given, made: &Made, path: &str) -> Result<Value
     match find_value(alloc, &made.outs, path)? {
         Value::Nothing => find_value(alloc, &given.deps, path),
         Value::File(bytes) => Ok(Value::File(bytes)),
+        Value::Files(map) => Ok(Value::Files(map)),
     }
 }
 
-// The bytes at the output; they stand first, and so in place of those made before.
+// The bytes at the output.
 fn put_file(alloc: Global, out: &str, bytes: &[u8], made: &mut Made) -> Result<(), NoMemory>
-    ensures put { OnOk result (made.new ≡ with_file out.now bytes.now made.old) }
+    ensures put { OnOk result (made.new ≡ with_value out.now (File bytes.now) made.old) }
 {
-    made.outs = with_file(alloc, out, bytes, made)?;
+    let bytes = Bytes::of(alloc, bytes)?;
+    put_value(alloc, out, Value::File(bytes), made)
+}
+
+// The value at the output; it stands first, and so in place of the one made before.
+fn put_value(alloc: Global, out: &str, value: Value, made: &mut Made) -> Result<(), NoMemory>
+    ensures put { OnOk result (made.new ≡ with_value out.now value made.old) }
+{
+    let mut outs = first_out(alloc, out, value)?;
+    push_all(alloc, &mut outs, made.outs.as_slice())?;
+    made.outs = outs;
     Ok(())
 }
 
-fn with_file(alloc: Global, out: &str, bytes: &[u8], made: &Made) -> Result<PathValues, NoMemory>
-    ensures first { IfOk result (λ outs. record { outs = outs } ≡ with_file out.now bytes.now made.now) }
+fn first_out(alloc: Global, out: &str, value: Value) -> Result<PathValues, NoMemory>
+    ensures first { IfOk result (λ outs. outs ≡ record { path = out.now; value = value } ∷ []) }
 {
+    let path = Text::of(alloc, out)?;
     let mut outs = PathValues::new(alloc);
-    push_file(alloc, &mut outs, out, bytes)?;
-    push_all(alloc, &mut outs, made.outs.as_slice())?;
+    outs.push(PathValue { path, value })?;
     Ok(outs)
 }
 

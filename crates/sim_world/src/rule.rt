@@ -5,15 +5,17 @@ ghost use Rattle.sim_world.specs.declared.rule.Made.{Made};
 ghost use Rattle.sim_world.specs.Step.{Step};
 
 use crate::PathValues;
-use dvc_base::{NoMemory, Text, Texts};
+use dvc_base::{NoMemory, ParamFiles, Text, Texts};
 use std::alloc::Global;
 use world_api::Exit;
 
-/// What one command is given: its text, the values of the stage's dependencies, and the texts of its outputs.
+/// What one command is given: its text, the values of the stage's dependencies, its parameters, and the texts of its
+/// outputs.
 #[derive(Drop)]
 pub struct Given {
     pub command: Text,
     pub deps: PathValues,
+    pub params: ParamFiles,
     pub outs: Texts,
 }
 

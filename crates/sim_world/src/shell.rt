@@ -1,19 +1,20 @@
 // The programs of a world in memory, which its rule answers.
 ghost use Rattle.std.specs.Prelude.{◌≡◌, ◌++◌, ◌∷◌, [], IsTrue, IfOk, OnOk};
 ghost use Rattle.world_api.specs.Tree.{value_at};
-ghost use Rattle.world_api.specs.Effect.{path_from, given_values};
+ghost use Rattle.world_api.specs.Effect.{path_from, given_values, invocation_of};
 ghost use Rattle.world_api.specs.Outside.{tree_of};
 ghost use Rattle.world_api.specs.Calls.{is_runnable, HasFolders};
-ghost use Rattle.sim_world.specs.Answer.{answered, found, plain_value, plain_values, unmade};
+ghost use Rattle.sim_world.specs.Answer.{answered, found, given_by, plain_value, plain_values, unmade};
 ghost use Rattle.sim_world.specs.Call.{Makes, IsSame, Counted};
 ghost use Rattle.sim_world.specs.Change.{changed, grown};
 ghost use Rattle.sim_world.specs.declared.change.Change.TheVariants.{Started, Left, Ran};
 ghost use Rattle.sim_world.specs.Run.{left_outs, out_changes, run_changes, MakesAll, RunsBy};
 
 use crate::change::Change;
-use crate::value::find_value;
+use crate::folder::value_of;
+use crate::value::{check_values, find_value};
 use crate::{Given, Made, PathValue, PathValues, Rule, SimWorld, Tree, Value};
-use dvc_base::{Bytes, Failed, NoMemory, Plain, Rel, Text};
+use dvc_base::{Failed, NoMemory, Plain, Rel, Text};
 use std::alloc::Global;
 use world_api::{Exit, Job, Shell, World};
 
@@ -52,6 +53,7 @@ impl<R: Rule> SimWorld<R> {
         ensures count { counts_in self.new ≡ counts_in self.old }
     {
         let exit = answer_job::<R>(self.alloc(), self.tree(), job, made)?;
+        check_values(&made.outs);
         self.make_run(job, &exit, made)?;
         Ok(exit)
     }
@@ -127,7 +129,7 @@ fn answer_job<R: Rule>(
     made: &mut Made,
 ) -> Result<Exit, NoMemory>
     ensures told { IfOk result (λ exit.
-        answered R.effect (plain_values (given_values tree.now job.now.dir job.now.deps)) job.now.outs job.now.commands made.old
+        answered R.effect (given_by (invocation_of job.now tree.now)) job.now.commands made.old
         ≡ record { code = exit.code; made = made.new }) }
 {
     let mut given = given_of(alloc, tree, job)?;
@@ -136,12 +138,12 @@ fn answer_job<R: Rule>(
 
 // What the commands of a job are given; the command itself is filled in for each.
 fn given_of(alloc: Global, tree: &Tree, job: &Job) -> Result<Given, NoMemory>
-    ensures deps { IfOk result (λ given. given.deps ≡ plain_values (given_values tree.now job.now.dir job.now.deps)) }
-    ensures outs { IfOk result (λ given. given.outs ≡ job.now.outs) }
+    ensures told { IfOk result (λ given. given ≡ given_by (invocation_of job.now tree.now)) }
 {
     Ok(Given {
         command: Text::of(alloc, "")?,
         deps: values_of(alloc, tree, &job.dir, job.deps.as_slice())?,
+        params: job.params.copy(alloc)?,
         outs: job.outs.copy(alloc)?,
     })
 }
@@ -184,15 +186,6 @@ fn path_of(alloc: Global, dir: &Rel, text: &Text) -> Result<Rel, NoMemory>
     dir.join(alloc, text.as_str()).map_err(|_| NoMemory)
 }
 
-fn value_of(alloc: Global, tree: &Tree, at: &Rel) -> Result<Value, NoMemory>
-    ensures told { IfOk result (λ value. value ≡ plain_value (value_at tree.now at.now)) }
-{
-    match tree.file(at) {
-        Some(bytes) => Ok(Value::File(Bytes::of(alloc, bytes)?)),
-        None => Ok(Value::Nothing),
-    }
-}
-
 fn nothing_made(alloc: Global, job: &Job) -> Result<Made, NoMemory>
     ensures unmade { IfOk result (λ made. made.outs ≡ unmade job.now.outs) }
 {
@@ -214,7 +207,7 @@ fn answer_all<R: Rule>(
     given: &mut Given,
     made: &mut Made,
 ) -> Result<Exit, NoMemory>
-    ensures told { IfOk result (λ exit. answered R.effect given.old.deps given.old.outs commands.now made.old
+    ensures told { IfOk result (λ exit. answered R.effect given.old commands.now made.old
         ≡ record { code = exit.code; made = made.new }) }
 {
     for command in commands {

@@ -1,55 +1,75 @@
 // A tree of files and folders, in memory.
-ghost use Rattle.std.specs.Prelude.{◌≡◌, ◌≢◌, [], IfOk, OnOk, OnErr, option_map, option_copied, Some, None};
-ghost use Rattle.std.specs.Ordering.{eq_by_cmp};
-ghost use Rattle.std.specs.FinMap.{find, insert, empty};
-ghost use Rattle.world_api.specs.Tree.{IsTree, item_at, path_cmp, folder, file};
+ghost use Rattle.std.specs.Prelude.{◌≡◌, ◌≢◌, ◌≤◌, ◌++◌, [], length, IfOk, OnOk, OnErr, option_copied};
+ghost use Rattle.std.specs.FinMap.{insert, empty, entries};
+ghost use Rattle.world_api.specs.Tree.{IsRelPath, IsTree, Item, item_at, folder, file};
 ghost use Rattle.world_api.specs.Calls.{kind_of, parent};
-ghost use Rattle.sim_world.specs.Edits.{is_root, is_folder, has_place, without, with_folders, edited_tree, left_tree, made_tree, published_tree, put_value, place};
-ghost use Rattle.sim_world.specs.Found.{bytes_of};
-ghost use Rattle.std.specs.Prelude.{length, not};
-ghost use Rattle.sim_world.specs.Entries.{item_of, pairs_of, tree_of};
+ghost use Rattle.sim_world.specs.Edits.{is_root, is_folder, is_nothing, has_place, without, with_folders, put_member, put_files, edited_tree, left_tree, made_tree, published_tree, put_value, place};
+ghost use Rattle.sim_world.specs.Good.{AreFit, IsFit};
+ghost use Rattle.sim_world.specs.Item.{item_bytes, bytes_of};
+ghost use Rattle.sim_world.specs.Sorted.{pairs_of};
 
-use crate::Value;
-use dvc_base::{Bytes, NoMemory, Plain, Rel, is_at_or_below, is_same};
+use crate::paths::{check_path, is_root, join_below, parent_of};
+use crate::sorted::{Member, Sorted};
+use crate::{FileMap, Value};
+use dvc_base::{Bytes, NoMemory, Plain, Rel};
 use std::alloc::Global;
 use std::marker::Model;
 use world_api::Kind;
 
+// What stands at one path: a folder where there are no bytes.
 #[derive(Drop)]
-enum Node {
-    Folder,
-    File(Bytes),
+pub(crate) struct Node {
+    bytes: Option<Bytes>,
 }
 
-impl Plain for Node {
-    fn copy(&self, alloc: Global) -> Result<Node, NoMemory> {
-        match self {
-            Node::Folder => Ok(Node::Folder),
-            Node::File(bytes) => Ok(Node::File(bytes.copy(alloc)?)),
+impl Model for Node {
+    ghost use Rattle.world_api.specs.Tree.{Item};
+    ghost use Rattle.sim_world.specs.Item.{item_from, item_code};
+
+    ghost Value = { Item };
+
+    ghost coded = { item_code };
+
+    ghost view = { λ n. item_from n.bytes };
+}
+
+impl Node {
+    fn folder() -> Node
+        ensures told { result ≡ folder }
+    {
+        Node { bytes: None }
+    }
+
+    fn file(bytes: Bytes) -> Node
+        ensures told { result ≡ file bytes }
+    {
+        Node { bytes: Some(bytes) }
+    }
+
+    // The bytes of the file, if it is one.
+    pub(crate) fn bytes(&self) -> Option<&[u8]>
+        ensures told { option_copied result ≡ item_bytes self.now }
+    {
+        match &self.bytes {
+            None => None,
+            Some(bytes) => Some(bytes.as_slice()),
         }
     }
 }
 
-// What stands at one path.
-#[derive(Drop)]
-struct Entry {
-    path: Rel,
-    node: Node,
-}
-
-impl Plain for Entry {
-    fn copy(&self, alloc: Global) -> Result<Entry, NoMemory> {
-        Ok(Entry {
-            path: self.path.copy(alloc)?,
-            node: self.node.copy(alloc)?,
-        })
+impl Plain for Node {
+    fn copy(&self, alloc: Global) -> Result<Node, NoMemory> {
+        match &self.bytes {
+            None => Ok(Node::folder()),
+            Some(bytes) => Ok(Node::file(bytes.copy(alloc)?)),
+        }
     }
 }
 
 /// Files and folders below a root, which is always there.
 #[derive(Drop)]
 pub struct Tree {
-    entries: Vec<Entry>,
+    nodes: Sorted<Node>,
 }
 
 impl Model for Tree {
@@ -60,11 +80,9 @@ impl Model for Tree {
 
     ghost coded = { tree_code };
 
-    ghost use Rattle.sim_world.specs.Entries.{tree_of};
+    ghost view = { λ t. t.nodes };
 
-    ghost view = { λ t. tree_of t.entries.items };
-
-    ghost invariant = { λ t. IsTree (tree_of t.entries.items) };
+    ghost invariant = { λ t. IsTree t.nodes };
 }
 
 impl Tree {
@@ -73,7 +91,7 @@ impl Tree {
         ensures empty { result ≡ empty }
     {
         Tree {
-            entries: Vec::new(alloc),
+            nodes: Sorted::new(alloc),
         }
     }
 
@@ -84,13 +102,7 @@ impl Tree {
         if is_root(at) {
             return Kind::Folder;
         }
-        match self.node(at) {
-            None => Kind::Missing,
-            Some(Node::Folder) => Kind::Folder,
-            Some(Node::File(bytes)) => Kind::File {
-                size: bytes.as_slice().len() as u64,
-            },
-        }
+        kind_of(self.nodes.get(at))
     }
 
     /// The bytes of the file at the path, if a file stands there.
@@ -100,32 +112,43 @@ impl Tree {
         if is_root(at) {
             return None;
         }
-        match self.node(at) {
+        match self.nodes.get(at) {
             None => None,
-            Some(Node::Folder) => None,
-            Some(Node::File(bytes)) => Some(bytes.as_slice()),
+            Some(node) => node.bytes(),
         }
     }
 
-    fn node(&self, at: &Rel) -> Option<&Node>
-        requires { at.now ≢ [] }
-        ensures found { option_map item_of (option_copied result) ≡ item_at self.now at.now }
+    pub(crate) fn is_folder(&self, at: &Rel) -> bool
+        ensures told { result ≡ is_folder (item_at self.now at.now) }
     {
-        find(&self.entries, at)
+        if is_root(at) {
+            return true;
+        }
+        match self.nodes.get(at) {
+            None => false,
+            Some(node) => node.bytes().is_none(),
+        }
+    }
+
+    // All that stands there, in the order of the paths.
+    pub(crate) fn members(&self) -> &[Member<Node>]
+        ensures all { pairs_of result.now ≡ entries self.now }
+    {
+        self.nodes.as_slice()
     }
 
     // Each tree is one: the root isn't listed, and the parent of each member is a folder.
     pub(crate) fn check(&self)
         ensures tree { IsTree self.now }
     {
-        let _ = &self.entries;
+        let _ = &self.nodes;
     }
 
     // Takes away what stands at or below the path.
     pub(crate) fn clear(&mut self, at: &Rel)
         ensures cleared { self.new ≡ without at.now self.old }
     {
-        remove_below(&mut self.entries, at);
+        self.nodes.remove_below(at);
     }
 
     // Puts the value at the path in place of what stands there, with the folders above it.
@@ -136,11 +159,12 @@ impl Tree {
         if is_root(at) {
             return Ok(());
         }
+        value.check();
         // The change is made to a copy, so that a refusal leaves the tree as it was.
-        let mut entries = copy_entries(alloc, &self.entries)?;
-        remove_below(&mut entries, at);
-        put_value(alloc, &mut entries, at, value)?;
-        self.entries = entries;
+        let mut nodes = self.nodes.copy(alloc)?;
+        nodes.remove_below(at);
+        put_value(alloc, &mut nodes, at, value)?;
+        self.nodes = nodes;
         Ok(())
     }
 
@@ -152,10 +176,12 @@ impl Tree {
         if !self.has_place(alloc, at)? {
             return Ok(());
         }
-        let mut entries = copy_entries(alloc, &self.entries)?;
-        remove_below(&mut entries, at);
-        place(alloc, &mut entries, at, value)?;
-        self.entries = entries;
+        check_path(at);
+        value.check();
+        let mut nodes = self.nodes.copy(alloc)?;
+        nodes.remove_below(at);
+        place(alloc, &mut nodes, at, value)?;
+        self.nodes = nodes;
         Ok(())
     }
 
@@ -167,10 +193,8 @@ impl Tree {
         if !self.has_place(alloc, at)? {
             return Ok(());
         }
-        let mut entries = copy_entries(alloc, &self.entries)?;
-        put_folder(alloc, &mut entries, at)?;
-        self.entries = entries;
-        Ok(())
+        check_path(at);
+        put_folder(alloc, &mut self.nodes, at)
     }
 
     // Moves the value to the path, in place of what stands there, and takes away what stands where it came from.
@@ -198,143 +222,139 @@ impl Tree {
         let above = parent_of(alloc, at)?;
         Ok(self.is_folder(&above))
     }
-
-    pub(crate) fn is_folder(&self, at: &Rel) -> bool
-        ensures told { result ≡ is_folder (item_at self.now at.now) }
-    {
-        if is_root(at) {
-            return true;
-        }
-        match self.node(at) {
-            Some(Node::Folder) => true,
-            Some(Node::File(_)) => false,
-            None => false,
-        }
-    }
 }
 
 impl Plain for Tree {
     fn copy(&self, alloc: Global) -> Result<Tree, NoMemory> {
-        let entries = copy_entries(alloc, &self.entries)?;
-        Ok(Tree { entries })
+        let nodes = self.nodes.copy(alloc)?;
+        Ok(Tree { nodes })
     }
 }
 
-fn is_root(at: &Rel) -> bool
-    ensures empty { result ≡ is_root at.now }
+fn kind_of(node: Option<&Node>) -> Kind
+    ensures told { result ≡ kind_of (option_copied node.entry) }
 {
-    at.parts().is_empty()
-}
-
-// The folder above a path.
-fn parent_of(alloc: Global, at: &Rel) -> Result<Rel, NoMemory>
-    requires { at.now ≢ [] }
-    ensures above { IfOk result (λ path. path ≡ parent at.now) }
-{
-    // The parent's text is never too long, since its child's isn't.
-    at.join(alloc, "..").map_err(|_| NoMemory)
-}
-
-fn copy_entries(alloc: Global, entries: &[Entry]) -> Result<Vec<Entry>, NoMemory>
-    ensures same { IfOk result (λ copy. copy.items ≡ entries.now) }
-{
-    let mut copy = Vec::new(alloc);
-    for entry in entries {
-        copy.push(entry.copy(alloc)?)?;
+    match node {
+        None => Kind::Missing,
+        Some(node) => match node.bytes() {
+            None => Kind::Folder,
+            Some(bytes) => Kind::File {
+                size: bytes.len() as u64,
+            },
+        },
     }
-    Ok(copy)
 }
 
-// What stands at a path that isn't the root.
-fn find<'a>(entries: &'a [Entry], at: &Rel) -> Option<&'a Node>
-    ensures first { option_map item_of (option_copied result) ≡ find path_cmp at.now (pairs_of entries.now) }
+// Makes a folder of the path and of those above it, so many of them in all.
+fn put_folders(
+    alloc: Global,
+    nodes: &mut Sorted<Node>,
+    at: &Rel,
+    count: usize,
+) -> Result<(), NoMemory>
+    requires { count ≤ length at.now }
+    ensures ok { OnOk result (nodes.new ≡ with_folders count at.now nodes.old) }
 {
-    for entry in entries {
-        if is_same(&entry.path, at) {
-            return Some(&entry.node);
-        }
-    }
-    None
-}
-
-fn remove_below(entries: &mut Vec<Entry>, at: &Rel)
-    ensures without { tree_of entries.new.items ≡ without at.now (tree_of entries.old.items) }
-{
-    entries.retain(|entry| !is_at_or_below(&entry.path, at));
-}
-
-// Puts a node at a path, in place of the one there.
-fn put(entries: &mut Vec<Entry>, path: Rel, node: Node) -> Result<(), NoMemory>
-    ensures ok { OnOk result (tree_of entries.new.items ≡ insert (tree_of entries.old.items) path (item_of node)) }
-{
-    entries.retain(|entry| is_other(&entry.path, &path));
-    entries.push(Entry { path, node })?;
-    Ok(())
-}
-
-fn is_other(a: &Rel, b: &Rel) -> bool
-    ensures apart { result ≡ not (eq_by_cmp path_cmp a.now b.now) }
-{
-    !is_same(a, b)
-}
-
-// Makes a folder of the path and of each path above it.
-fn put_folders(alloc: Global, entries: &mut Vec<Entry>, at: &Rel) -> Result<(), NoMemory>
-    ensures ok { OnOk result (tree_of entries.new.items
-        ≡ with_folders (length at.now) at.now (tree_of entries.old.items)) }
-{
-    if is_root(at) {
+    if count == 0 {
         return Ok(());
     }
     let above = parent_of(alloc, at)?;
-    put_folders(alloc, entries, &above)?;
-    put_folder(alloc, entries, at)
+    put_folders(alloc, nodes, &above, count - 1)?;
+    put_folder(alloc, nodes, at)
 }
 
-fn put_folder(alloc: Global, entries: &mut Vec<Entry>, at: &Rel) -> Result<(), NoMemory>
-    ensures ok { OnOk result (tree_of entries.new.items ≡ insert (tree_of entries.old.items) at.now folder) }
+fn put_folder(alloc: Global, nodes: &mut Sorted<Node>, at: &Rel) -> Result<(), NoMemory>
+    ensures ok { OnOk result (nodes.new ≡ insert nodes.old at.now folder) }
+    ensures err { OnErr result (nodes.new ≡ nodes.old) }
 {
     let path = at.copy(alloc)?;
-    put(entries, path, Node::Folder)
+    nodes.put(path, Node::folder())
 }
 
 fn put_file(
     alloc: Global,
-    entries: &mut Vec<Entry>,
+    nodes: &mut Sorted<Node>,
     at: &Rel,
     bytes: &Bytes,
 ) -> Result<(), NoMemory>
-    ensures ok { OnOk result (tree_of entries.new.items ≡ insert (tree_of entries.old.items) at.now (file bytes.now)) }
+    ensures ok { OnOk result (nodes.new ≡ insert nodes.old at.now (file bytes.now)) }
 {
     let path = at.copy(alloc)?;
     let bytes = bytes.copy(alloc)?;
-    put(entries, path, Node::File(bytes))
+    nodes.put(path, Node::file(bytes))
+}
+
+// Puts a file below the path, and the folders between the two.
+fn put_member(
+    alloc: Global,
+    nodes: &mut Sorted<Node>,
+    at: &Rel,
+    member: &Member<Bytes>,
+) -> Result<(), NoMemory>
+    requires { member.now.path ≢ [] }
+    ensures ok { OnOk result (nodes.new ≡ put_member at.now member.now.path member.now.value nodes.old) }
+    ensures fits { OnOk result (IsRelPath (at.now ++ member.now.path)) }
+{
+    let path = join_below(alloc, at, &member.path)?;
+    let above = parent_of(alloc, &path)?;
+    put_folders(alloc, nodes, &above, member.path.parts().len() - 1)?;
+    put_file(alloc, nodes, &path, &member.value)
+}
+
+fn put_files(
+    alloc: Global,
+    nodes: &mut Sorted<Node>,
+    at: &Rel,
+    map: &FileMap,
+) -> Result<(), NoMemory>
+    ensures ok { OnOk result (nodes.new ≡ put_files at.now (entries map.now) nodes.old) }
+    ensures fits { OnOk result (AreFit at.now (entries map.now)) }
+{
+    map.check();
+    for member in map.members() {
+        put_member(alloc, nodes, at, member)?;
+    }
+    Ok(())
 }
 
 fn put_value(
     alloc: Global,
-    entries: &mut Vec<Entry>,
+    nodes: &mut Sorted<Node>,
     at: &Rel,
     value: &Value,
 ) -> Result<(), NoMemory>
     requires { at.now ≢ [] }
-    ensures ok { OnOk result (tree_of entries.new.items ≡ put_value at.now value.now (tree_of entries.old.items)) }
+    ensures ok { OnOk result (nodes.new ≡ put_value at.now value.now nodes.old) }
+    ensures fits { OnOk result (IsFit at.now value.now) }
+{
+    if is_nothing(value) {
+        return Ok(());
+    }
+    let above = parent_of(alloc, at)?;
+    put_folders(alloc, nodes, &above, above.parts().len())?;
+    place(alloc, nodes, at, value)
+}
+
+fn is_nothing(value: &Value) -> bool
+    ensures told { result ≡ is_nothing value.now }
 {
     match value {
-        Value::Nothing => Ok(()),
-        Value::File(bytes) => {
-            let above = parent_of(alloc, at)?;
-            put_folders(alloc, entries, &above)?;
-            put_file(alloc, entries, at, bytes)
-        }
+        Value::Nothing => true,
+        Value::File(_) => false,
+        Value::Files(_) => false,
     }
 }
 
-fn place(alloc: Global, entries: &mut Vec<Entry>, at: &Rel, value: &Value) -> Result<(), NoMemory>
-    ensures ok { OnOk result (tree_of entries.new.items ≡ place at.now value.now (tree_of entries.old.items)) }
+fn place(alloc: Global, nodes: &mut Sorted<Node>, at: &Rel, value: &Value) -> Result<(), NoMemory>
+    ensures ok { OnOk result (nodes.new ≡ place at.now value.now nodes.old) }
+    ensures fits { OnOk result (IsFit at.now value.now) }
 {
     match value {
         Value::Nothing => Ok(()),
-        Value::File(bytes) => put_file(alloc, entries, at, bytes),
+        Value::File(bytes) => put_file(alloc, nodes, at, bytes),
+        Value::Files(map) => {
+            put_folder(alloc, nodes, at)?;
+            put_files(alloc, nodes, at, map)
+        }
     }
 }

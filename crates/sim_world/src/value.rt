@@ -1,7 +1,9 @@
 // What a test puts into the world, and what a command is given and leaves.
 ghost use Rattle.std.specs.Prelude.{◌≡◌, IfOk};
 ghost use Rattle.sim_world.specs.Answer.{found};
+ghost use Rattle.sim_world.specs.Good.{IsGood, AreGood};
 
+use crate::FileMap;
 use dvc_base::{Bytes, NoMemory, Plain, Plural, Text};
 use std::alloc::Global;
 
@@ -10,6 +12,21 @@ use std::alloc::Global;
 pub enum Value {
     Nothing,
     File(Bytes),
+    /// A folder's files. Without a file it is an empty folder.
+    Files(FileMap),
+}
+
+impl Value {
+    // Each map of files is one of a folder.
+    pub(crate) fn check(&self)
+        ensures good { IsGood self.now }
+    {
+        match self {
+            Value::Nothing => (),
+            Value::File(_) => (),
+            Value::Files(map) => map.check(),
+        }
+    }
 }
 
 impl Plain for Value {
@@ -17,6 +34,7 @@ impl Plain for Value {
         match self {
             Value::Nothing => Ok(Value::Nothing),
             Value::File(bytes) => Ok(Value::File(bytes.copy(alloc)?)),
+            Value::Files(map) => Ok(Value::Files(map.copy(alloc)?)),
         }
     }
 }
@@ -50,4 +68,13 @@ pub(crate) fn find_value(alloc: Global, values: &PathValues, path: &str) -> Resu
         }
     }
     Ok(Value::Nothing)
+}
+
+// Each value is as the code makes one.
+pub(crate) fn check_values(values: &PathValues)
+    ensures good { AreGood values.now }
+{
+    for entry in values.as_slice() {
+        entry.value.check();
+    }
 }

@@ -1,14 +1,14 @@
 // A world in memory: a tree, the jobs that were run, and the log of changes from which its history is told.
 ghost use Rattle.std.specs.Prelude.{◌≡◌, ◌≢◌, [], Some, None, OnOk, IfOk, MatchResult, IsErr, Ok};
 ghost use Rattle.std.specs.Coded.{Coded-set};
-ghost use Rattle.world_api.specs.Tree.{IsTree};
 ghost use Rattle.world_api.specs.History.{HasCause};
 ghost use Rattle.world_api.specs.Outside.{tree_of, jobs_of};
 ghost use Rattle.sim_world.specs.Answer.{effect_of};
 ghost use Rattle.sim_world.specs.Applied.{tree_after, jobs_after};
 ghost use Rattle.sim_world.specs.Call.{Makes, IsSame, Counted, IsEdited};
-ghost use Rattle.sim_world.specs.Change.{opened, edited, changed, grown};
-ghost use Rattle.sim_world.specs.TreeCode.{IsTree-prop, tree_code};
+ghost use Rattle.sim_world.specs.Change.{opened, edited, changed, grown, met_at};
+ghost use Rattle.sim_world.specs.Stands.{AreTrees, AreTrees-prop};
+ghost use Rattle.sim_world.specs.TreeCode.{tree_code};
 
 use crate::change::{Change, record_change};
 use crate::{Rule, Tree, Value};
@@ -31,7 +31,7 @@ pub struct SimWorld<R: Rule> {
     failed: u64,
     starved: u64,
     rule: PhantomData<R>,
-    ghost opened: { IsTree opening } by { IsTree-prop opening },
+    ghost trees: { AreTrees opening log.items } by { AreTrees-prop opening log.items },
     ghost tree_is: { tree ≡ tree_after opening log.items } by { Coded-set tree_code _ _ },
     ghost jobs_are: { jobs ≡ jobs_after [] log.items } by { Coded-set jobs-code _ _ },
 }
@@ -81,9 +81,21 @@ impl<R: Rule> SimWorld<R> {
             (history_in self.old).present (history_in self.new).present) }
         ensures count { counts_in self.new ≡ counts_in self.old }
     {
+        value.check();
         let at = at.copy(self.alloc)?;
         let value = value.copy(self.alloc)?;
         self.make(Change::Edited { at, value })
+    }
+
+    /// Adds the value at the path to the contents that were met: its bytes, and of a folder its listing's text. The tree
+    /// stays as it is. It is one moment.
+    pub fn meet(&mut self, at: &Rel) -> Result<(), NoMemory>
+        ensures made { Makes result (grown (met_at at.now)) IsSame
+            (history_in self.old) (history_in self.new) }
+        ensures count { counts_in self.new ≡ counts_in self.old }
+    {
+        let at = at.copy(self.alloc)?;
+        self.make(Change::Met { at })
     }
 
     /// What stands there now.

@@ -1,5 +1,5 @@
 // What a world is asked before a call, since a world that tells what it holds wants the call's conditions.
-ghost use Rattle.std.specs.Prelude.{◌≡◌, ◌≢◌, true, false, IsTrue, IfOk};
+ghost use Rattle.std.specs.Prelude.{◌≡◌, ◌≢◌, ◌<◌, true, false, length, IsTrue, IfOk};
 ghost use Rattle.dvc_base.specs.Path.{under};
 ghost use Rattle.world_api.specs.declared.files.Kind.TheVariants.{Folder};
 ghost use Rattle.world_api.specs.Calls.{IsFileAt, parent};
@@ -65,12 +65,19 @@ pub(crate) fn has_room<W: World>(alloc: Global, world: &mut W, at: &Rel) -> Resu
     Ok(is_room(folder, kind))
 }
 
-/// Whether the path isn't the lane's, and no longer than a name of a real file can be.
+/// Whether the path isn't the lane's, and each of its names may be that of a real file.
 pub(crate) fn may_publish(alloc: Global, at: &Rel, lane: u32) -> Result<bool, Fail>
     ensures apart { IfOk result (λ is. is ≡ true → under (lane_path lane) at.now ≡ false) }
 {
     let own = lane_path(alloc, lane)?;
-    Ok(!is_at_or_below(at, &own) && at.text().len() <= NAME_MAX)
+    Ok(!is_at_or_below(at, &own) && is_as_long_as_names(at))
+}
+
+/// Whether none of the path's names is longer than one of a real file can be.
+pub(crate) fn is_as_long_as_names(at: &Rel) -> bool {
+    at.parts()
+        .iter()
+        .all(|name| name.as_str().len() <= NAME_MAX)
 }
 
 fn is_room(above: Kind, kind: Kind) -> bool
@@ -79,9 +86,11 @@ fn is_room(above: Kind, kind: Kind) -> bool
     above == Kind::Folder && kind != Kind::Folder
 }
 
+/// Whether the second path is the folder above the first.
 #[tactic(auto, using(crate::proofs::PlaceLemmas::parent_of))]
-fn is_just_below(at: &Rel, above: &Rel) -> bool
+pub(crate) fn is_just_below(at: &Rel, above: &Rel) -> bool
     ensures parent { result ≡ true → parent at.now ≡ above.now }
+    ensures less { result ≡ true → length above.now < length at.now }
 {
     let depth = at.parts().len();
     let folders = above.parts().len();

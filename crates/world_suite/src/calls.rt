@@ -5,6 +5,7 @@ ghost use Rattle.dvc_base.specs.Path.{under};
 ghost use Rattle.world_api.specs.Writes.{lane_path};
 
 use crate::asked::{has_room, is_file, is_lane, may_begin, may_publish, settle};
+use crate::folders::{list, make};
 use crate::jobs;
 use crate::told::Told;
 use dvc_base::Rel;
@@ -30,6 +31,7 @@ pub(crate) fn perform<W: World>(
     }
     for at in paths {
         look(at, told, world)?;
+        list(at, told, world)?;
         read(at, told, world, 0, 65_536)?;
     }
     Ok(())
@@ -39,7 +41,7 @@ fn call<W: World>(paths: &[Rel], told: &mut Told, world: &mut W) -> Result<(), F
     let Some(at) = told.pick(paths) else {
         return Ok(());
     };
-    match told.below(12) {
+    match told.below(15) {
         0 => look(at, told, world),
         1 | 2 => read_somewhere(at, told, world),
         3 => clear(at, told, world),
@@ -48,6 +50,8 @@ fn call<W: World>(paths: &[Rel], told: &mut Told, world: &mut W) -> Result<(), F
         7 => append_size(told, world),
         8 => write_much(at, told, world),
         9 | 10 => publish_drawn(at, told, world),
+        11 | 12 => make(at, told, world),
+        13 => list(at, told, world),
         _ => jobs::run(told, world),
     }
 }

@@ -4,7 +4,7 @@ ghost use Rattle.world_api.specs.Tree.{Tree};
 ghost use Rattle.world_api.specs.Calls.{is_runnable, HasFolders};
 
 use crate::told::Told;
-use dvc_base::{Rel, Text, Texts};
+use dvc_base::{ParamFiles, Rel, Text, Texts};
 use std::alloc::Global;
 use std::test::Fail;
 use world_api::{Job, World};
@@ -58,6 +58,7 @@ fn job_of(alloc: Global, commands: &str) -> Result<Job, Fail>
         commands: lines_of(alloc, commands)?,
         dir: Rel::root(alloc),
         deps: two_texts(alloc, "in", "quiet")?,
+        params: ParamFiles::new(alloc),
         outs: two_texts(alloc, "out", "two")?,
     })
 }

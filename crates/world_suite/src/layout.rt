@@ -15,6 +15,18 @@ const FILES: &[&str] = &[
     "two/x",
     "g/\u{e9}/i",
     "w x/y",
+    "n/b",
+    "n/a/deep",
+    "n/a-",
+    "n/a b",
+    "n/B",
+    "n/.hidden",
+    "n/\u{e9}",
+    "n/\u{1f600}",
+    "n/\u{ffff}",
+    "n/-rf",
+    "n/a line\nand another",
+    "n/\"q\" \\",
 ];
 
 const PATHS: &[&str] = &[
@@ -36,6 +48,11 @@ const PATHS: &[&str] = &[
     "w x/y",
     "w x/ y ",
     "missing/below",
+    "missing/below/it/and more",
+    "n",
+    "n/a",
+    "n/b/below",
+    "n/a/deep/below/more",
     ".dvc",
     ".dvc/config",
     ".dvc/tmp",
@@ -57,10 +74,25 @@ pub(crate) fn paths(alloc: Global) -> Result<Vec<Rel>, Fail> {
         paths.push(Rel::root(alloc).join(alloc, text)?)?;
     }
     for bytes in [255, 256, 1_000] {
-        let name = String::from_utf8(Vec::from_elem(alloc, b'n', bytes)?)?;
-        paths.push(Rel::root(alloc).join(alloc, name.as_str())?)?;
+        paths.push(Rel::root(alloc).join(alloc, long_name(alloc, bytes)?.as_str())?)?;
     }
+    paths.push(long_path(alloc)?)?;
     Ok(paths)
+}
+
+/// So many letters.
+pub(crate) fn long_name(alloc: Global, bytes: usize) -> Result<String, Fail> {
+    Ok(String::from_utf8(Vec::from_elem(alloc, b'n', bytes)?)?)
+}
+
+// As long as a path can be, with names as long as those of real files.
+fn long_path(alloc: Global) -> Result<Rel, Fail> {
+    let name = long_name(alloc, 255)?;
+    let mut at = Rel::root(alloc);
+    for _ in 0..4 {
+        at = at.join(alloc, name.as_str())?;
+    }
+    Ok(at)
 }
 
 /// The world in memory, in which the file of that path stands too.
@@ -78,7 +110,13 @@ fn fill_memory(alloc: Global, world: &mut SimWorld<Pipe>, left: &str) -> Result<
     edit(alloc, world, left, "left")
 }
 
-fn edit(alloc: Global, world: &mut SimWorld<Pipe>, path: &str, text: &str) -> Result<(), Fail> {
+/// Puts a file of the text there.
+pub(crate) fn edit(
+    alloc: Global,
+    world: &mut SimWorld<Pipe>,
+    path: &str,
+    text: &str,
+) -> Result<(), Fail> {
     let path = Rel::root(alloc).join(alloc, path)?;
     if path.parts().is_empty() {
         return Err(Fail::new("no file is the root"));
@@ -102,7 +140,8 @@ pub(crate) fn real(
     Ok(RealWorld::new(rt.clone()?, rt.alloc(), folder)?)
 }
 
-fn write(rt: &HostRuntime, folder: &str, path: &str, text: &str) -> Result<(), Fail> {
+/// Puts a file of the text there, with the folders above it.
+pub(crate) fn write(rt: &HostRuntime, folder: &str, path: &str, text: &str) -> Result<(), Fail> {
     let place = format!(in rt.alloc(); "{folder}/{path}")?;
     if let Some((above, _)) = place.rsplit_once('/') {
         fs::create_dir_all(rt, above)?;

@@ -4,7 +4,7 @@ ghost use Rattle.std.specs.Prelude.{◌≡◌, ◌∷◌, [], IfOk, IsTrue};
 ghost use Rattle.world_api.specs.Tree.{Tree};
 ghost use Rattle.world_api.specs.Calls.{is_runnable, HasFolders};
 
-use dvc_base::{Bytes, NoMemory, Numbers, Rel, Text, Texts};
+use dvc_base::{Bytes, NoMemory, Numbers, ParamFiles, Rel, Text, Texts};
 use sim_world::{Given, Made, MemSink, PathValue, PathValues, Pipe, Rule, SimWorld, Tree, Value};
 use std::alloc::Global;
 use std::process::Abort;
@@ -77,6 +77,7 @@ fn given(alloc: Global, command: &str) -> Result<Given, NoMemory> {
     Ok(Given {
         command: Text::of(alloc, command)?,
         deps: deps(alloc)?,
+        params: ParamFiles::new(alloc),
         outs: outs(alloc)?,
     })
 }
@@ -111,8 +112,8 @@ fn made_at<'a>(made: &'a Made, path: &str) -> Option<&'a [u8]> {
     for entry in made.outs.as_slice() {
         if entry.path.as_str() == path {
             return match &entry.value {
-                Value::Nothing => None,
                 Value::File(bytes) => Some(bytes.as_slice()),
+                Value::Nothing | Value::Files(_) => None,
             };
         }
     }
@@ -227,6 +228,7 @@ fn job(alloc: Global, command: &str) -> Result<Job, NoMemory>
         commands: one_text(alloc, command)?,
         dir: Rel::root(alloc),
         deps: one_text(alloc, "a")?,
+        params: ParamFiles::new(alloc),
         outs: one_text(alloc, "x")?,
     })
 }

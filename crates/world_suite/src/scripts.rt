@@ -1,7 +1,7 @@
 // Real files alone: what a world in memory hasn't, as links, pipes, failures and what a shell sees. A script
 // has a call a line, with its answer behind an arrow, and is played in a folder of its own.
 use crate::asked::may_publish;
-use dvc_base::{Failed, Rel, Text, Texts};
+use dvc_base::{Failed, ParamFiles, Rel, Text, Texts};
 use real_world::RealWorld;
 use std::alloc::Global;
 use std::fmt::Debug;
@@ -29,11 +29,29 @@ fn play_lines(alloc: Global, world: &mut Real, script: &str) -> Result<(), Fail>
 
 fn play_line(alloc: Global, world: &mut Real, line: &str) -> Result<(), Fail> {
     let (call, want) = line.split_once(" => ").unwrap_or((line, ""));
+    expect(alloc, world, call, want)
+}
+
+/// Runs the command at the root. Where it succeeds, the line's call has its answer; else that call fails.
+pub(crate) fn as_shell(
+    alloc: Global,
+    world: &mut Real,
+    command: &str,
+    line: &str,
+) -> Result<(), Fail> {
+    let (call, done) = line.split_once(" => ").unwrap_or((line, ""));
+    let job = job_of(alloc, ".", command)?;
+    let exit = world.run(&job)?;
+    let want = if exit.code == 0 { done } else { "Err(Failed)" };
+    expect(alloc, world, call, want)
+}
+
+fn expect(alloc: Global, world: &mut Real, call: &str, want: &str) -> Result<(), Fail> {
     let answer = answer_of(alloc, world, call)?;
     if answer.as_str() == want {
         return Ok(());
     }
-    Err(Fail::new(format_args!("{line}: {answer}")))
+    Err(Fail::new(format_args!("{call} => {want}: {answer}")))
 }
 
 fn answer_of(alloc: Global, world: &mut Real, call: &str) -> Result<String, Fail> {
@@ -41,6 +59,8 @@ fn answer_of(alloc: Global, world: &mut Real, call: &str) -> Result<String, Fail
     match verb {
         "kind" => kind(alloc, world, rest),
         "read" => read(alloc, world, rest),
+        "list" => list(alloc, world, rest),
+        "make" => make(alloc, world, rest),
         "clear" => clear(alloc, world, rest),
         "begin" => shown(alloc, world.begin(0)),
         "append" => shown(alloc, world.append(0, rest.as_bytes())),
@@ -58,6 +78,16 @@ fn shown<T: Debug + Drop>(alloc: Global, answer: T) -> Result<String, Fail> {
 fn kind(alloc: Global, world: &mut Real, text: &str) -> Result<String, Fail> {
     let at = path_of(alloc, text)?;
     shown(alloc, world.kind(&at))
+}
+
+fn list(alloc: Global, world: &mut Real, text: &str) -> Result<String, Fail> {
+    let at = path_of(alloc, text)?;
+    shown(alloc, world.list(alloc, &at))
+}
+
+fn make(alloc: Global, world: &mut Real, text: &str) -> Result<String, Fail> {
+    let at = path_of(alloc, text)?;
+    shown(alloc, world.make_folder(&at))
 }
 
 // `PATH FROM`: at most ten bytes.
@@ -104,6 +134,7 @@ fn job_of(alloc: Global, dir: &str, commands: &str) -> Result<Job, Fail> {
         commands: texts_of(alloc, commands)?,
         dir: path_of(alloc, dir)?,
         deps: Texts::new(alloc),
+        params: ParamFiles::new(alloc),
         outs: Texts::new(alloc),
     })
 }

@@ -5,6 +5,7 @@ use Rattle.sim_world.proofs.shell.answer_all.Given as goal
 abbrev pub invariant-loop-command : goal.invariant-loop-command
 invariant-loop-command g l = record {
   deps : l.given.deps ≡ l.initial.given.deps;
+  params : l.given.params ≡ l.initial.given.params;
   outs : l.given.outs ≡ l.initial.given.outs;
-  rest : answered g.R.Rule.effect l.given.deps l.given.outs l.commands l.initial.made ≡ answered g.R.Rule.effect l.given.deps l.given.outs (drop l.command-index l.commands) l.made;
+  rest : answered g.R.Rule.effect l.initial.given l.commands l.initial.made ≡ answered g.R.Rule.effect l.initial.given (drop l.command-index l.commands) l.made;
 }

@@ -1,5 +1,5 @@
 -- Where `kind` answers a file, a file stands.
-use Rattle.std.proofs.Common.{◌≡◌, sym, ap, ◌∙◌}
+use Rattle.std.proofs.Common.{◌≡◌}
 use Rattle.world_api.specs.Tree.{item_at}
 use Rattle.world_api.specs.Calls.{kind_of}
 use Rattle.world_api.specs.declared.files.Kind.TheVariants.{File}

@@ -1,5 +1,5 @@
 -- A read changes nothing, so the file still stands.
-use Rattle.std.proofs.Common.{◌≡◌, sym, subst}
+use Rattle.std.proofs.Common.{sym, subst}
 use Rattle.world_api.specs.History.{History}
 use Rattle.world_api.specs.Calls.{IsFileAt}
 use Rattle.world_suite.proofs.calls.read_piece.Goals as goal

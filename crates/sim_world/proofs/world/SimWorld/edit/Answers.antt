@@ -11,4 +11,4 @@ returns-clause-edited g c =
     let value = c.in_ok-value.value in
     let was = (history_in c.args.self.now).present in
     rw (← c.in_ok-at.ensures.same, ← c.in_ok-value.ensures.same)
-    (one_left c.make.result (IsEdited at value was) (edited at value) _ _ (edit_done at value was (rw c.in_ok-at.ensures.same c.requires)) c.make.ensures.made)
+    (one_left c.make.result (IsEdited at value was) (edited at value) _ _ (edit_done at value was (rw c.in_ok-value.ensures.same c.check.ensures.good) (rw c.in_ok-at.ensures.same c.requires)) c.make.ensures.made)
