@@ -1,0 +1,5 @@
+pub mod Objects
+pub mod Giving
+pub mod Store
+pub mod Due
+pub mod Copying
