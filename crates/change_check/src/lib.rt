@@ -1,6 +1,8 @@
-//! The comparison of what is remembered of a stage with what stands there.
+//! The comparison of what is remembered of a stage with what is seen of it.
 #![tactic(auto)]
 
 mod same;
+mod seen;
 
-pub use same::same_entry;
+pub use same::{agrees, is_named, same_entry};
+pub use seen::{Seen, SeenPath, SeenPaths};

@@ -1,72 +1,36 @@
--- Laws of trees: what is put at a path, what is taken away, and the folders that lead to a path.
+-- Laws of paths: those above a path, and outputs that are apart.
 --     IsRoad t p          a folder stands at each path strictly above p
---     item_put_..         what stands after an item was put at a path
---     item_without        outside the paths that are taken away nothing changes
---     root_outside        the root lies in no output
+--     apart_above         a path that is p, or lies above it, lies in none that p is apart from
 --     above_outputs       no path strictly above an output lies in an output
-use Rattle.std.proofs.Common.{◌≡◌, ◌≢◌, ℕ, ◌+◌, ◌-◌, ◌<◌, nat_lt, Bool, true, false, not, cond, List, [], ◌∷◌, ◌++◌, length, take, drop, refl, sym, ap, subst, ◌∙◌, arith, append_assoc, Option, Some, None, is_some, ◌==◌}
+--     apart_lists, apart_overlap     outputs that are apart, in two lists
+--     strictly            a path that lies below another is longer
+use Rattle.std.proofs.Common.{◌≡◌, ◌≢◌, ℕ, ◌+◌, ◌-◌, ◌<◌, nat_lt, true, false, not, cond, ◌&&◌, List, [], ◌∷◌, ◌++◌, length, take, drop, refl, sym, ap, subst, ◌∙◌, inl, inr, arith, append_assoc, Option, Some, is_some, IsSome, ◌==◌}
 use Rattle.std.specs.List.{AllByRecursion, list_any}
-use Rattle.std.specs.Ordering.{nat_cmp, eq_by_cmp}
-use Rattle.std.specs.Cmp.{IsTotalOrder, Equal-is}
-use Rattle.std.specs.FinMap.{get, insert, retain_keys, get-insert, get-retain_keys, nat_cmp-IsAntisymmetric, slice_cmp-IsAntisymmetric}
-use Rattle.std.proofs.lemmas.Cmp.{lists_total, nat_list_cmp_total, eq_by_cmp_equiv}
-use Rattle.std.proofs.lemmas.Bool.{and_parts, and_from, or_parts, or_from, both_ways, false_from_ne_true, ltb-true, lt-ltb}
+use Rattle.std.specs.FinMap.{get}
+use Rattle.std.proofs.lemmas.Bool.{false≢true, and_parts, and_from, or_parts, or_from, or_left, or_right, or_cases, both_ways, false_from_ne_true, ltb-true, lt-ltb, cases_lt}
 use Rattle.std.proofs.lemmas.List.{append-nil, length-append, length-take-le, take-append-drop}
+use Rattle.std.proofs.lemmas.Slice.Eq.{bytes_eq-Decides}
 use Rattle.std.proofs.Math.Seq.{take-append-add}
 use Rattle.dvc_base.specs.Path.{Path, under, overlap, is_within}
-use Rattle.dvc_base.proofs.PathLemmas.{under-refl, under-trans, under-split, under-append, under-length}
-use Rattle.world_api.specs.Tree.{Tree, Item, folder, IsTree, path_cmp, item_at}
+use Rattle.dvc_base.proofs.PathLemmas.{under-refl, under-trans, under-split, under-append, under-length, under-same_length, under-overlap}
+use Rattle.world_api.specs.Tree.{Tree, Item, folder, IsTree, item_at}
 use Rattle.world_api.specs.Effect.{is_in_any}
 use Rattle.world_api.specs.Calls.{is_apart, are_apart, parent}
-use Rattle.repro_laws.specs.Anew.{without, with_item, with_folders, is_file, is_blocked}
-
--- ---- the order of paths
-
-path_total : IsTotalOrder path_cmp
-path_total = lists_total nat_list_cmp_total
-
-path_tied : (p q : Path) → eq_by_cmp path_cmp p q ≡ true → p ≡ q
-path_tied p q h =
-    slice_cmp-IsAntisymmetric (slice_cmp-IsAntisymmetric nat_cmp-IsAntisymmetric) p q ((Equal-is (path_cmp p q)).0 h)
-
--- ---- an item that is put
-
-pub item_put_same : (t : Tree) (p : Path) (item : Item) → p ≢ [] → item_at (insert t p item) p ≡ Some item
-item_put_same t [] item h = absurd (h refl)
-item_put_same t (c ∷ p) item h =
-    get-insert path_total t (c ∷ p) item (c ∷ p) ∙ ap (λ (b : Bool). cond b (Some item) (get t (c ∷ p))) ((eq_by_cmp_equiv path_total).refl (c ∷ p))
-
-pub item_put_other : (t : Tree) (p q : Path) (item : Item) → q ≢ p → item_at (insert t p item) q ≡ item_at t q
-item_put_other t p [] item h = refl
-item_put_other t p (c ∷ q) item h =
-    get-insert path_total t p item (c ∷ q) ∙ ap (λ (b : Bool). cond b (Some item) (get t (c ∷ q))) (false_from_ne_true (eq_by_cmp path_cmp (c ∷ q) p) (λ e. h (path_tied (c ∷ q) p e)))
+use Rattle.world_api.proofs.TreeLemmas.{split_last, parent_push}
+use Rattle.repro_laws.specs.Anew.{is_file, is_blocked}
+use Rattle.repro_laws.proofs.ListLemmas.{each_from, any_second, any_parts}
 
 pub not_same : (p q : Path) → under p q ≡ false → q ≢ p
 not_same p q h e = both_ways (under p q) h (subst (λ (x : Path). under p x ≡ true) (sym e) (under-refl p))
 
--- ---- what is taken away
-
-item_retain : (t : Tree) (p q : Path) → under p q ≡ false → item_at (retain_keys t (λ x. not (under p x))) q ≡ item_at t q
-item_retain t p [] h = refl
-item_retain t p (c ∷ q) h =
-    let alike : (x : Path) → path_cmp (c ∷ q) x ≡ Rattle.std.specs.declared.cmp.Ordering.TheVariants.Equal → not (under p x) ≡ not (under p (c ∷ q)) =
-    λ x e. ap (λ (y : Path). not (under p y)) (sym (slice_cmp-IsAntisymmetric (slice_cmp-IsAntisymmetric nat_cmp-IsAntisymmetric) (c ∷ q) x e)) in
-    get-retain_keys t (λ x. not (under p x)) (c ∷ q) alike ∙ ap (λ (b : Bool). cond (not b) (get t (c ∷ q)) None) h
-
-pub item_without : (ps : List Path) (t : Tree) (q : Path) → is_in_any ps q ≡ false → item_at (without t ps) q ≡ item_at t q
-item_without [] t q h = refl
-item_without (p ∷ ps) t q h =
-    let parts = or_parts (under p q) (is_in_any ps q) h in
-    item_without ps (retain_keys t (λ x. not (under p x))) q parts.1 ∙ item_retain t p q parts.0
-
 -- ---- a path within another
 
-is_within_parts : (p q : Path) → is_within p q ≡ true → (under q p ≡ true) × (length q < length p)
+pub is_within_parts : (p q : Path) → is_within p q ≡ true → (under q p ≡ true) × (length q < length p)
 is_within_parts p q h =
     let x = and_parts (under q p) (nat_lt (length q) (length p)) h in
     (x.0, ltb-true (length q) (length p) x.1)
 
-is_within_from : (p q : Path) → under q p ≡ true → length q < length p → is_within p q ≡ true
+pub is_within_from : (p q : Path) → under q p ≡ true → length q < length p → is_within p q ≡ true
 is_within_from p q a b =
     and_from (under q p) (nat_lt (length q) (length p)) a (lt-ltb (length q) (length p) b)
 
@@ -117,13 +81,6 @@ folders_to t tree p q h u =
 
 pub road_to : (t : Tree) → IsTree t → (p : Path) → item_at t (parent p) ≡ Some folder → IsRoad t p
 road_to t tree p h q w = folders_to t tree (parent p) q h (under_parent q p w)
-
--- where folders lead to a path and to itself, none is made
-pub with_folders_same : (t : Tree) (above p : Path) → ((q : Path) → under q (above ++ p) ≡ true → item_at t q ≡ Some folder) → with_folders t above p ≡ t
-with_folders_same t above [] h =
-    ap (λ (o : Option Item). with_item o t above) (h above (under-append above []))
-with_folders_same t above (c ∷ p) h =
-    ap (λ (o : Option Item). cond (is_file o) t (with_folders (with_item o t above) (above ++ c ∷ []) p)) (h above (under-append above (c ∷ p))) ∙ with_folders_same t (above ++ c ∷ []) p (λ q u. h q (subst (λ (x : Path). under q x ≡ true) (append_assoc above (c ∷ []) p) u))
 
 pub is_blocked_road : (t : Tree) (above p : Path) → IsRoad t (above ++ p) → is_blocked t above p ≡ false
 is_blocked_road t above [] h = refl
@@ -184,12 +141,109 @@ above_outputs (p ∷ ps) h =
       above_more p ps ps parts.0 (above_outputs ps parts.1),
     )
 
--- an item put apart from a path leaves its road
-pub roads_put : (t : Tree) (p : Path) (item : Item) (ps : List Path) → is_apart p ps ≡ true → AllByRecursion (IsRoad t) ps → AllByRecursion (IsRoad (insert t p item)) ps
-roads_put t p item [] h roads = tt
-roads_put t p item (q ∷ ps) h roads =
-    let parts = apart_head p q ps h in
-    let over = or_parts (under p q) (under q p) parts.0 in (
-      λ r w. item_put_other t p r item (λ e. both_ways (under p q) over.0 (subst (λ (x : Path). under x q ≡ true) e (is_within_parts q r w).0)) ∙ roads.0 r w,
-      roads_put t p item ps parts.1 roads.1,
-    )
+pub roots_apart : (ps : List Path) → are_apart ps ≡ true → AllByRecursion (λ p. p ≢ []) ps
+roots_apart [] h = tt
+roots_apart (p ∷ ps) h =
+    let parts = and_parts (is_apart p ps) (are_apart ps) h in
+    (apart_root p ps parts.0, roots_apart ps parts.1)
+
+-- a path above one that lies outside the outputs lies outside them
+pub above_outside : (outs : List Path) (q p : Path) → under q p ≡ true → is_in_any outs p ≡ false → is_in_any outs q ≡ false
+above_outside [] q p u h = refl
+above_outside (out ∷ outs) q p u h =
+    let parts = or_parts (under out p) (is_in_any outs p) h in
+    or_from (under out q) (is_in_any outs q) (false_from_ne_true (under out q) (λ e. both_ways (under out p) parts.0 (under-trans out q p e u))) (above_outside outs q p u parts.1)
+
+-- what lies in one of the others doesn't lie in p
+apart_under : (p q : Path) (ps : List Path) → is_apart p ps ≡ true → is_in_any ps q ≡ true → under p q ≡ false
+apart_under p q [] h inside = absurd (false≢true inside)
+apart_under p q (x ∷ ps) h inside =
+    let parts = apart_head p x ps h in
+    elim (or_cases (under x q) (is_in_any ps q) inside) [
+      | inl u ↦ false_from_ne_true (under p q) (λ e. both_ways (overlap p x) parts.0 (under-overlap p x q e u))
+      | inr later ↦ apart_under p q ps parts.1 later
+    ]
+
+pub apart_later : (xs ys : List Path) → are_apart (xs ++ ys) ≡ true → are_apart ys ≡ true
+apart_later [] ys h = h
+apart_later (x ∷ xs) ys h = apart_later xs ys (and_parts (is_apart x (xs ++ ys)) (are_apart (xs ++ ys)) h).1
+
+-- what lies in the later ones of outputs that are apart doesn't lie in the first ones
+pub apart_lists : (xs ys : List Path) → are_apart (xs ++ ys) ≡ true → (q : Path) → is_in_any ys q ≡ true → is_in_any xs q ≡ false
+apart_lists [] ys h q inside = refl
+apart_lists (x ∷ xs) ys h q inside =
+    let parts = and_parts (is_apart x (xs ++ ys)) (are_apart (xs ++ ys)) h in
+    or_from (under x q) (is_in_any xs q) (apart_under x q (xs ++ ys) parts.0 (any_second (λ out. under out q) xs ys inside)) (apart_lists xs ys parts.1 q inside)
+
+none_overlap : (p : Path) (ps : List Path) → is_apart p ps ≡ true → list_any (overlap p) ps ≡ false
+none_overlap p [] h = refl
+none_overlap p (x ∷ ps) h =
+    let parts = apart_head p x ps h in
+    or_from (overlap p x) (list_any (overlap p) ps) parts.0 (none_overlap p ps parts.1)
+
+-- the first ones overlap none of the later ones
+pub apart_overlap : (xs ys : List Path) → are_apart (xs ++ ys) ≡ true → AllByRecursion (λ x. list_any (overlap x) ys ≡ false) xs
+apart_overlap [] ys h = tt
+apart_overlap (x ∷ xs) ys h =
+    let parts = and_parts (is_apart x (xs ++ ys)) (are_apart (xs ++ ys)) h in
+    ((any_parts (overlap x) xs ys (none_overlap x (xs ++ ys) parts.0)).1, apart_overlap xs ys parts.1)
+
+pub in_itself : (ps : List Path) → AllByRecursion (λ p. (q : Path) → under p q ≡ true → is_in_any ps q ≡ true) ps
+in_itself [] = tt
+in_itself (p ∷ ps) = (
+  λ q u. or_left (under p q) (is_in_any ps q) u,
+  each_from (λ x. (q : Path) → under x q ≡ true → is_in_any ps q ≡ true) (λ x. (q : Path) → under x q ≡ true → is_in_any (p ∷ ps) q ≡ true) ps (λ x f q u. or_right (under p q) (is_in_any ps q) (f q u)) (in_itself ps),
+)
+
+-- ---- paths below one another
+
+pub under_common : (p a b : Path) → under (p ++ a) (p ++ b) ≡ under a b
+under_common [] a b = refl
+under_common (c ∷ p) a b =
+    ap (λ x. x && under (p ++ a) (p ++ b)) ((bytes_eq-Decides c c).1 refl) ∙ under_common p a b
+
+pub append_cancel : (p a b : Path) → p ++ a ≡ p ++ b → a ≡ b
+append_cancel [] a b e = e
+append_cancel (c ∷ p) a b e = append_cancel p a b (ap (drop 1) e)
+
+pub strictly : (q p : Path) → under q p ≡ true → q ≢ p → length q < length p
+strictly q p u ne =
+    elim (cases_lt (length q) (length p)) [
+      | inl less ↦ less
+      | inr most ↦ absurd (ne (under-same_length q p u (omega (arith, under-length q p u))))
+    ]
+
+pub within : (p q : Path) → under q p ≡ true → q ≢ p → is_within p q ≡ true
+within p q u ne = is_within_from p q u (strictly q p u ne)
+
+-- what lies strictly above a path isn't at it, or below it
+pub above_apart : (p q : Path) → is_within p q ≡ true → under p q ≡ false
+above_apart p q w =
+    let up = is_within_parts p q w in
+    false_from_ne_true (under p q) (λ e. let l = under-length p q e in absurd (omega arith))
+
+pub parent_append : (p r : Path) → r ≢ [] → p ++ parent r ≡ parent (p ++ r)
+parent_append p r ne =
+    let last = split_last r ne in
+    sym (ap parent (ap (λ (x : Path). p ++ x) last.1 ∙ sym (append_assoc p (parent r) (last.0 ∷ []))) ∙ parent_push (p ++ parent r) last.0)
+
+-- ---- where a tree has something, folders stand above
+
+pub some_above : (u : Tree) → IsTree u → (q : Path) (c : List ℕ) (rest : Path) → IsSome (item_at u (q ++ c ∷ rest)) → item_at u q ≡ Some folder
+some_above u tree q c [] some =
+    tree.parents q c (subst (λ (o : Option Item). IsSome o) (item_at_push u q c) some)
+some_above u tree q c (d ∷ rest) some =
+    let next : item_at u (q ++ c ∷ []) ≡ Some folder =
+    some_above u tree (q ++ c ∷ []) d rest (subst (λ (x : Path). IsSome (item_at u x)) (sym (append_assoc q (c ∷ []) (d ∷ rest))) some) in
+    tree.parents q c (ap is_some (sym (item_at_push u q c) ∙ next))
+
+above_by : (u : Tree) → IsTree u → (p q rest : Path) → p ≡ q ++ rest → length q < length p → IsSome (item_at u p) → item_at u q ≡ Some folder
+above_by u tree p q [] cut less some =
+    absurd (omega (arith, ap length cut, ap length (append-nil q)))
+above_by u tree p q (c ∷ rest) cut less some =
+    some_above u tree q c rest (subst (λ (x : Path). IsSome (item_at u x)) cut some)
+
+pub stands_above : (u : Tree) → IsTree u → (p q : Path) → IsSome (item_at u p) → is_within p q ≡ true → item_at u q ≡ Some folder
+stands_above u tree p q some w =
+    let up = is_within_parts p q w in
+    above_by u tree p q (drop (length q) p) (under-split q p up.0) up.1 some

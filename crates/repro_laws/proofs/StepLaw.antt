@@ -1,187 +1,293 @@
 -- A stage's turn in a tree, beside one step of running the stages anew.
---     IsLeft         what a turn has left, whichever it was
---     Follows        the tree that is, and the one that runs anew so far have made
---     step_law       after both of them take the stage's turn they still agree
-use Rattle.std.proofs.Common.{◌≡◌, ◌≢◌, ℕ, Bool, true, false, cond, List, [], ◌∷◌, ◌++◌, length, drop, map, refl, sym, ap, subst, ◌∙◌, ◌⊎◌, inl, inr, append_assoc, Option, Some, None, is_some, IsSome}
-use Rattle.std.specs.List.{AllByRecursion}
-use Rattle.std.specs.FinMap.{insert}
-use Rattle.std.proofs.lemmas.Bool.{and_parts, or_parts, or_cases, or_right, both_ways, false≢true, false_from_ne_true, cases_Bool}
-use Rattle.std.proofs.lemmas.List.{append-nil}
-use Rattle.dvc_base.specs.Path.{Path, under, is_within}
-use Rattle.dvc_base.proofs.PathLemmas.{under-refl, under-split}
-use Rattle.world_api.specs.Tree.{Tree, Item, folder, file, Value, IsTree, item_at, value_at}
-use Rattle.world_api.specs.Effect.{Effect, gives, path_from, out_paths, given_values, invocation_of, is_in_any}
-use Rattle.world_api.specs.Calls.{IsFileAt, is_apart, are_apart}
-use Rattle.world_api.proofs.ValueLemmas.{value_same}
+--     IsNext own all done rest s     a stage that has its turn, among all of them
+--     step_law      after both of them take the stage's turn they are still related
+use Rattle.std.proofs.Common.{◌≡◌, ◌≢◌, Bool, true, false, cond, List, [], ◌∷◌, ◌++◌, map, sym, ap, subst, ◌∙◌, ◌⊎◌, inl, inr, Some, None, is_some, IsSome}
+use Rattle.std.specs.List.{AllByRecursion, list_any}
+use Rattle.std.proofs.lemmas.Bool.{false≢true, or_cases, both_ways, false_from_ne_true, cases_Bool}
+use Rattle.dvc_base.specs.Path.{Path, under, overlap, is_within}
+use Rattle.dvc_base.specs.declared.data.ParamFile.{ParamFile}
+use Rattle.dvc_base.proofs.PathLemmas.{under-refl}
+use Rattle.world_api.specs.Tree.{Tree, folder, Value, IsTree, item_at, value_at}
+use Rattle.world_api.specs.Effect.{Effect, gives, invocation_of, is_in_any}
+use Rattle.world_api.specs.Calls.{are_apart, parent}
 use Rattle.world_api.proofs.TreeLemmas.{path_cases}
-use Rattle.repro_laws.specs.Stage.{job_of, dep_paths, stage_outs, in_order, IsReady}
-use Rattle.repro_laws.specs.Anew.{with_folders, put_value, put_values, after_outcome, anew_step}
-use Rattle.repro_laws.specs.Headline.{IsKept}
+use Rattle.repro_laws.specs.Stage.{dep_path, tracked_path, read_paths, stage_outs, value_inside, dep_value, is_nothing, params_at, job_with, IsStage}
+use Rattle.repro_laws.specs.Anew.{with_folders, is_blocked, put_values, after_outcome, run_with, anew_step}
+use Rattle.repro_laws.specs.Turns.{State, is_way, IsLeftAt, Left}
+use Rattle.repro_laws.specs.Headline.{IsOwn, IsApart, IsKept}
+use Rattle.repro_laws.specs.declared.stage.Dep.{Dep}
 use Rattle.repro_laws.specs.declared.stage.Stage.{Stage}
-use Rattle.repro_laws.proofs.RoadLemmas.{IsRoad, item_put_same, item_put_other, not_same, item_at_push, with_folders_same, apart_root, apart_above, roads_put}
-use Rattle.repro_laws.proofs.AnewLemmas.{each_both, each_from, none_missing, none_missing_at, given_same, put_file, none_blocked, outcome_put, outs_apart, job_outs}
-use Rattle.repro_laws.proofs.NameLaw.{IsMade}
-use Rattle.repro_laws.proofs.OrderLemmas.{all_in_order}
+use Rattle.repro_laws.proofs.ListLemmas.{each_from, each_both, each_first, each_second, each_all, each_mapped, each_map, each_false, none_true, any_parts, any_neither, any_second, any_first}
+use Rattle.repro_laws.proofs.RoadLemmas.{within, within_parent, is_blocked_road, IsAbove, above_outputs, above_outside, roots_apart, apart_later, apart_lists, apart_overlap, in_itself, stands_above}
+use Rattle.repro_laws.proofs.FileLemmas.{file_at, some_value, no_folder_file}
+use Rattle.repro_laws.proofs.FolderLemmas.{Grows, grows_then, grows_some, folders_grow, folders_files, folders_roads, folders_made, clear_item}
+use Rattle.repro_laws.proofs.PutLemmas.{IsFree, ArePutFrom, values_put}
+use Rattle.repro_laws.proofs.ReadLemmas.{outside_outs, stands_inside, seen_outs, stood_deps, left_files, left_some, stay_value, same_given, same_params}
+use Rattle.repro_laws.proofs.DepLaw.{Related, IsMarked, IsRead, grown_item, read_value}
 
--- ---- below a file nothing stands
+pub record IsNext (own : Path → Bool) (all done rest : List Path) (s : Stage) : Type 0 where
+  pub area : IsOwn own
+  pub split : all ≡ done ++ (stage_outs s ++ rest)
+  pub apart : are_apart all ≡ true
+  pub stage : IsStage s
+  pub kept : IsKept own s
+  pub marked : AllByRecursion (IsMarked all) s.deps
+  pub reads : list_any (λ p. list_any (overlap p) (stage_outs s ++ rest)) (read_paths s) ≡ false
+  pub free : AllByRecursion (λ p. own p ≡ false) done
 
-some_above : (u : Tree) → IsTree u → (q : Path) (c : List ℕ) (rest : Path) → IsSome (item_at u (q ++ c ∷ rest)) → item_at u q ≡ Some folder
-some_above u tree q c [] some =
-    tree.parents q c (subst (λ (o : Option Item). IsSome o) (item_at_push u q c) some)
-some_above u tree q c (d ∷ rest) some =
-    let next : item_at u (q ++ c ∷ []) ≡ Some folder =
-    some_above u tree (q ++ c ∷ []) d rest (subst (λ (x : Path). IsSome (item_at u x)) (sym (append_assoc q (c ∷ []) (d ∷ rest))) some) in
-    tree.parents q c (ap is_some (sym (item_at_push u q c) ∙ next))
+-- ---- what the stage reads
 
-none_of : (o : Option Item) → (IsSome o → ⊥) → o ≡ None
-none_of None h = refl
-none_of (Some item) h = absurd (h refl)
+abbrev IsOutside : (Path → Bool) → List Path → Path → Type 0
+IsOutside own outs p = (list_any (overlap p) outs ≡ false) × IsApart own p
 
-folder_is_none : (bytes : List ℕ) → Some folder ≡ Some (file bytes) → ⊥
-folder_is_none bytes e = cc
+outside_reads : (own : Path → Bool) (outs : List Path) (s : Stage) → IsKept own s → list_any (λ p. list_any (overlap p) outs) (read_paths s) ≡ false → AllByRecursion (IsOutside own outs) (read_paths s)
+outside_reads own outs s kept h =
+    each_both (λ p. list_any (overlap p) outs ≡ false) (IsApart own) (IsOutside own outs) (read_paths s) (λ p a b. (a, b)) (each_false (λ p. list_any (overlap p) outs) (read_paths s) h) kept.reads
 
-below_by : (u : Tree) → IsTree u → (p q : Path) (bytes : List ℕ) → item_at u p ≡ Some (file bytes) → q ≢ p → (rest : Path) → q ≡ p ++ rest → item_at u q ≡ None
-below_by u tree p q bytes there other [] cut = absurd (other (cut ∙ append-nil p))
-below_by u tree p q bytes there other (c ∷ rest) cut =
-    ap (item_at u) cut ∙ none_of (item_at u (p ++ c ∷ rest)) (λ some. folder_is_none bytes (sym (some_above u tree p c rest some) ∙ there))
+pub outside_deps : (own : Path → Bool) (outs : List Path) (s : Stage) → IsKept own s → list_any (λ p. list_any (overlap p) outs) (read_paths s) ≡ false → AllByRecursion (λ d. (list_any (overlap d.path) outs ≡ false) × IsApart own d.path) s.deps
+outside_deps own outs s kept h =
+    each_mapped dep_path (IsOutside own outs) s.deps (each_first (IsOutside own outs) (map dep_path s.deps) (map tracked_path s.params) (outside_reads own outs s kept h))
 
-pub below_file : (u : Tree) → IsTree u → (p q : Path) (bytes : List ℕ) → item_at u p ≡ Some (file bytes) → under p q ≡ true → q ≢ p → item_at u q ≡ None
-below_file u tree p q bytes there h other =
-    below_by u tree p q bytes there other (drop (length p) q) (under-split p q h)
+pub reads_deps : (own : Path → Bool) (all outs : List Path) (s : Stage) → IsKept own s → AllByRecursion (IsMarked all) s.deps → list_any (λ p. list_any (overlap p) outs) (read_paths s) ≡ false → AllByRecursion (IsRead own all outs) s.deps
+reads_deps own all outs s kept marked h =
+    each_both (IsMarked all) (λ d. IsOutside own outs d.path) (IsRead own all outs) s.deps (λ d a b. record { marked = a; apart = b.0; kept = b.1 }) marked (outside_deps own outs s kept h)
 
--- ---- the values of one tree put at paths of another that has nothing there
+pub reads_params : (own : Path → Bool) (outs : List Path) (s : Stage) → IsKept own s → list_any (λ p. list_any (overlap p) outs) (read_paths s) ≡ false → AllByRecursion (λ w. (list_any (overlap w.path) outs ≡ false) × IsApart own w.path) s.params
+reads_params own outs s kept h =
+    each_mapped tracked_path (IsOutside own outs) s.params (each_second (IsOutside own outs) (map dep_path s.deps) (map tracked_path s.params) (outside_reads own outs s kept h))
 
-pub record ArePlaced (t new u : Tree) (ps : List Path) : Type 0 where
-  pub others : (q : Path) → is_in_any ps q ≡ false → item_at new q ≡ item_at t q
-  pub inside : (q : Path) → is_in_any ps q ≡ true → item_at u q ≡ item_at new q
+-- ---- the outcome
 
--- a path in one of the others isn't p
-other_in : (p : Path) (ps : List Path) (q : Path) → is_apart p ps ≡ true → is_in_any ps q ≡ true → q ≢ p
-other_in p ps q h inside e =
-    both_ways (is_in_any ps q) (ap (is_in_any ps) e ∙ apart_above p p ps h (under-refl p)) inside
+outcome_put : (t : Tree) (outs : List Path) (values : List Value) → list_any is_nothing values ≡ false → list_any (is_blocked (put_values t outs values) []) outs ≡ false → after_outcome t outs (gives values) ≡ Some (put_values t outs values)
+outcome_put t outs values a b = rw (a, b)
 
-inside_here : (t u next last : Tree) (p q : Path) (bytes : List ℕ) → IsTree u → item_at u p ≡ Some (file bytes) → item_at next p ≡ Some (file bytes) → (q ≢ p → item_at next q ≡ item_at t q) → item_at t q ≡ None → item_at last q ≡ item_at next q → under p q ≡ true → (q ≡ p) ⊎ (q ≢ p) → item_at u q ≡ item_at last q
-inside_here t u next last p q bytes tree there put others none kept below (inl same) =
-    ap (item_at u) same ∙ there ∙ sym (kept ∙ ap (item_at next) same ∙ put)
-inside_here t u next last p q bytes tree there put others none kept below (inr other) =
-    below_file u tree p q bytes there below other ∙ sym (kept ∙ others other ∙ none)
+way_out : (ps : List Path) (u : Tree) (q : Path) → AllByRecursion (λ p. (x : Path) → is_within p x ≡ true → item_at u x ≡ Some folder) ps → AllByRecursion (λ p. p ≢ []) ps → list_any (λ out. under q (parent out)) ps ≡ true → item_at u q ≡ Some folder
+way_out [] u q made roots h = absurd (false≢true h)
+way_out (p ∷ ps) u q made roots h =
+    elim (or_cases (under q (parent p)) (list_any (λ out. under q (parent out)) ps) h) [
+      | inl here ↦ made.0 q (within_parent q p roots.0 here)
+      | inr later ↦ way_out ps u q made.1 roots.1 later
+    ]
 
-below_head : (p : Path) (ps : List Path) (q : Path) → is_in_any (p ∷ ps) q ≡ true → is_in_any ps q ≡ false → under p q ≡ true
-below_head p ps q h out =
-    elim (or_cases (under p q) (is_in_any ps q) h) [ inl e ↦ e | inr e ↦ absurd (both_ways (is_in_any ps q) out e) ]
+-- an output of the stage, in its turn
+record IsOutNow (own : Path → Bool) (all later : List Path) (n : Tree) (out : Path) : Type 0 where
+  inside : (q : Path) → under out q ≡ true → is_in_any later q ≡ true
+  above : IsAbove all out
+  kept : own out ≡ false
+  stands : is_nothing (value_at n out) ≡ false
 
-inside_cases : (t u next last : Tree) (p : Path) (ps : List Path) (q : Path) (bytes : List ℕ) → IsTree u → item_at u p ≡ Some (file bytes) → item_at next p ≡ Some (file bytes) → (q ≢ p → item_at next q ≡ item_at t q) → item_at t q ≡ None → ArePlaced next last u ps → is_in_any (p ∷ ps) q ≡ true → (is_in_any ps q ≡ true) ⊎ (is_in_any ps q ≡ false) → item_at u q ≡ item_at last q
-inside_cases t u next last p ps q bytes tree there put others none rest h (inl inside) = rest.inside q inside
-inside_cases t u next last p ps q bytes tree there put others none rest h (inr out) =
-    inside_here t u next last p q bytes tree there put others none (rest.others q out) (below_head p ps q h out) (path_cases q p)
-
-pub place : (ps : List Path) (t u : Tree) → IsTree u → AllByRecursion (IsFileAt u) ps → AllByRecursion (IsRoad t) ps → are_apart ps ≡ true → ((q : Path) → is_in_any ps q ≡ true → item_at t q ≡ None) → ArePlaced t (put_values t ps (map (value_at u) ps)) u ps
-place [] t u tree files roads apart clear =
-    record { others = λ q h. refl; inside = λ q h. absurd (false≢true h) }
-place (p ∷ ps) t u tree files roads apart clear =
-    let parts = and_parts (is_apart p ps) (are_apart ps) apart in
-    let root = apart_root p ps parts.0 in
-    let bytes = files.0.0 in
-    let next = insert t p (file bytes) in
-    let last = put_values next ps (map (value_at u) ps) in
-    let step : put_value t p (value_at u p) ≡ next = put_file t u p files.0 root roads.0 in
-    let others : (q : Path) → q ≢ p → item_at next q ≡ item_at t q = λ q e. item_put_other t p q (file bytes) e in
-    let clear_next : (q : Path) → is_in_any ps q ≡ true → item_at next q ≡ None =
-    λ q h. others q (other_in p ps q parts.0 h) ∙ clear q (or_right (under p q) (is_in_any ps q) h) in
-    let rest : ArePlaced next last u ps =
-    place ps next u tree files.1 (roads_put t p (file bytes) ps parts.0 roads.1) parts.1 clear_next in
-    let all : ArePlaced t last u (p ∷ ps) =
-    record {
-      others = λ q h. let out = or_parts (under p q) (is_in_any ps q) h in rest.others q out.1 ∙ others q (not_same p q out.0);
-      inside = λ q h. inside_cases t u next last p ps q bytes tree files.0.1 (item_put_same t p (file bytes) root) (others q) (clear q h) rest h (cases_Bool (is_in_any ps q));
-    } in
-    subst (λ (x : Tree). ArePlaced t (put_values x ps (map (value_at u) ps)) u (p ∷ ps)) (sym step) all
-
--- ---- a turn, and a step of running anew
-
--- what a turn has left, whichever it was
-pub record IsLeft (records : Path → Bool) (effect : Effect) (s : Stage) (m n : Tree) : Type 0 where
-  pub made : IsMade effect s n
-  pub others : (p : Path) → is_in_any (stage_outs s) p ≡ false → records p ≡ false → item_at n p ≡ item_at m p
-  pub deps : AllByRecursion (IsFileAt n) (dep_paths s)
-  pub outs : AllByRecursion (IsFileAt n) (stage_outs s)
-  pub tree : IsTree n
-
--- folders of the old tree, outside all outputs, lead to the stage's own folder and outputs
-pub record IsSettled (records : Path → Bool) (all : List Path) (t : Tree) (s : Stage) : Type 0 where
-  pub ready : IsReady s
-  pub kept : IsKept records s
-  pub roads : AllByRecursion (λ out. (q : Path) → is_within out q ≡ true → (is_in_any all q ≡ false) × (item_at t q ≡ Some folder)) (stage_outs s)
-  pub dir : (q : Path) → under q s.dir ≡ true → (is_in_any all q ≡ false) × (item_at t q ≡ Some folder)
-
--- the tree that is, and the one that runs anew have made, where some paths are pending
-pub record Follows (records : Path → Bool) (all : List Path) (t : Tree) (pending : Path → Bool) (now fold : Tree) : Type 0 where
-  pub same : (p : Path) → pending p ≡ false → records p ≡ false → item_at now p ≡ item_at fold p
-  pub clear : (p : Path) → pending p ≡ true → item_at fold p ≡ None
-  pub old : (p : Path) → is_in_any all p ≡ false → item_at fold p ≡ item_at t p
-
--- what is pending before and after the turn of a stage with these outputs
-pub record IsPending (outs all deps : List Path) (before after : Path → Bool) : Type 0 where
-  pub deps_before : AllByRecursion (λ dep. before dep ≡ false) deps
-  pub rest : (q : Path) → is_in_any outs q ≡ false → after q ≡ false → before q ≡ false
-  pub outs_before : (q : Path) → is_in_any outs q ≡ true → before q ≡ true
-  pub after_before : (q : Path) → after q ≡ true → (before q ≡ true) × (is_in_any outs q ≡ false)
-  pub outs_all : (q : Path) → is_in_any all q ≡ false → is_in_any outs q ≡ false
-
-pub record HasStep (records : Path → Bool) (effect : Effect) (all : List Path) (t : Tree) (s : Stage) (after : Path → Bool) (n fold : Tree) : Type 0 where
+pub record HasStep (own : Path → Bool) (effect : Effect) (all done rest : List Path) (s : Stage) (n : Tree) (fold : Tree) : Type 0 where
   pub tree : Tree
   pub step : anew_step effect s fold ≡ Some tree
-  pub follows : Follows records all t after n tree
+  pub related : Related own all done rest n tree
 
-same_after : (records : Path → Bool) (effect : Effect) (all : List Path) (t : Tree) (s : Stage) (before after : Path → Bool) (m n fold new : Tree) → IsLeft records effect s m n → IsPending (stage_outs s) all (dep_paths s) before after → Follows records all t before m fold → ArePlaced fold new n (stage_outs s) → (q : Path) → after q ≡ false → records q ≡ false → (is_in_any (stage_outs s) q ≡ true) ⊎ (is_in_any (stage_outs s) q ≡ false) → item_at n q ≡ item_at new q
-same_after records effect all t s before after m n fold new left pending follows placed q out kept (inl inside) = placed.inside q inside
-same_after records effect all t s before after m n fold new left pending follows placed q out kept (inr outside) =
-    left.others q outside kept ∙ follows.same q (pending.rest q outside out) kept ∙ sym (placed.others q outside)
+module _ (own : Path → Bool) (effect : Effect) (all done rest : List Path) (s : Stage) (m n : State) (fold : Tree) (next : IsNext own all done rest s) (left : Left own effect s m n) (tree : IsTree m.tree) (related : Related own all done (stage_outs s ++ rest) m.tree fold) where
+  outside_all : (q : Path) → is_in_any all q ≡ false → is_in_any (stage_outs s ++ rest) q ≡ false
+  outside_all q out =
+      (any_parts (λ p. under p q) done (stage_outs s ++ rest) (ap (λ (ps : List Path). is_in_any ps q) (sym next.split) ∙ out)).1
 
--- the dependencies are the same in both trees
-deps_follow : (records : Path → Bool) (effect : Effect) (all : List Path) (t : Tree) (s : Stage) (before after : Path → Bool) (m n fold : Tree) → IsKept records s → IsLeft records effect s m n → IsPending (stage_outs s) all (dep_paths s) before after → Follows records all t before m fold → AllByRecursion (λ dep. item_at fold dep ≡ item_at n dep) (dep_paths s)
-deps_follow records effect all t s before after m n fold kept left pending follows =
-    let outside : (q : Path) → before q ≡ false → is_in_any (stage_outs s) q ≡ false =
-    λ q b. false_from_ne_true (is_in_any (stage_outs s) q) (λ e. both_ways (before q) b (pending.outs_before q e)) in
-    each_both (λ dep. before dep ≡ false) (λ dep. records dep ≡ false) (λ dep. item_at fold dep ≡ item_at n dep) (dep_paths s) (λ dep b k. sym (left.others dep (outside dep b) k ∙ follows.same dep b k)) pending.deps_before kept.deps
+  outside_own : (q : Path) → is_in_any all q ≡ false → is_in_any (stage_outs s) q ≡ false
+  outside_own q out = (any_parts (λ p. under p q) (stage_outs s) rest (outside_all q out)).0
 
-pub same_given : (s : Stage) (t u : Tree) → IsReady s → AllByRecursion (IsFileAt t) (dep_paths s) → AllByRecursion (λ dep. item_at u dep ≡ item_at t dep) (dep_paths s) → invocation_of (job_of s) u ≡ invocation_of (job_of s) t
-same_given s t u ready files items =
-    let values : AllByRecursion (λ dep. value_at u dep ≡ value_at t dep) (dep_paths s) =
-    each_both (IsFileAt t) (λ dep. item_at u dep ≡ item_at t dep) (λ dep. value_at u dep ≡ value_at t dep) (dep_paths s) (λ p f e. value_same t u p f.0 f.1 e) files items in
-    let given : given_values u s.dir (in_order s.deps) ≡ given_values t s.dir (in_order s.deps) =
-    given_same t u s.dir (in_order s.deps) (all_in_order (path_from s.dir) (λ dep. value_at u dep ≡ value_at t dep) s.deps values) in
-    ap (λ (given : List (List ℕ × Value)). record { commands = s.commands; deps = given; outs = in_order s.outs }) given
+  files_left : (q : Path) → is_in_any (stage_outs s) q ≡ false → own q ≡ false → file_at n.tree q ≡ file_at m.tree q
+  files_left q out kept = left_files (is_way s) m.tree n.tree q tree left.stands (left.others q out kept)
 
-pub step_law : (records : Path → Bool) (effect : Effect) (all : List Path) (t : Tree) (s : Stage) (before after : Path → Bool) (m n fold : Tree) → IsSettled records all t s → IsLeft records effect s m n → IsPending (stage_outs s) all (dep_paths s) before after → Follows records all t before m fold → HasStep records effect all t s after n fold
-step_law records effect all t s before after m n fold settled left pending follows =
-    let ready = settled.ready in
-    let outs = stage_outs s in
-    let values = map (value_at n) outs in
-    let new = put_values fold outs values in
-    let roads : AllByRecursion (IsRoad fold) outs =
-    each_from (λ out. (q : Path) → is_within out q ≡ true → (is_in_any all q ≡ false) × (item_at t q ≡ Some folder)) (IsRoad fold) outs (λ out r q w. let x = r q w in follows.old q x.0 ∙ x.1) settled.roads in
-    let placed : ArePlaced fold new n outs =
-    place outs fold n left.tree left.outs roads (outs_apart s ready) (λ q h. follows.clear q (pending.outs_before q h)) in
-    let roads_new : AllByRecursion (IsRoad new) outs =
-    each_both (λ out. (q : Path) → is_within out q ≡ true → (is_in_any all q ≡ false) × (item_at t q ≡ Some folder)) (IsRoad fold) (IsRoad new) outs (λ out r f q w. placed.others q (pending.outs_all q (r q w).0) ∙ f q w) settled.roads roads in
-    let items = deps_follow records effect all t s before after m n fold settled.kept left pending follows in
-    let deps_here : AllByRecursion (IsFileAt fold) (dep_paths s) =
-    each_both (IsFileAt n) (λ dep. item_at fold dep ≡ item_at n dep) (IsFileAt fold) (dep_paths s) (λ p f e. (f.0, e ∙ f.1)) left.deps items in
-    let folder_made : with_folders fold [] s.dir ≡ fold =
-    with_folders_same fold [] s.dir (λ q h. let x = settled.dir q h in follows.old q x.0 ∙ x.1) in
-    let gave : effect (invocation_of (job_of s) fold) ≡ gives values =
-    ap effect (same_given s n fold ready left.deps items) ∙ left.made in
-    let outcome : after_outcome fold outs (gives values) ≡ Some new =
-    outcome_put fold outs values (none_missing n outs left.outs) (none_blocked new outs roads_new) in
-    let step : anew_step effect s fold ≡ Some new =
-    ap (λ (b : Bool). cond b None (after_outcome (with_folders fold [] s.dir) (out_paths (job_of s)) (effect (invocation_of (job_of s) fold)))) (none_missing_at fold (dep_paths s) deps_here) ∙ ap (λ (x : Tree). after_outcome x (out_paths (job_of s)) (effect (invocation_of (job_of s) fold))) folder_made ∙ ap (λ (ps : List Path). after_outcome fold ps (effect (invocation_of (job_of s) fold))) (job_outs s ready) ∙ ap (after_outcome fold outs) gave ∙ outcome in
-    record {
-      tree = new;
-      step = step;
-      follows = record {
-        same = λ q out kept. same_after records effect all t s before after m n fold new left pending follows placed q out kept (cases_Bool (is_in_any outs q));
-        clear = λ q h. let x = pending.after_before q h in placed.others q x.1 ∙ follows.clear q x.0;
-        old = λ q h. placed.others q (pending.outs_all q h) ∙ follows.old q h;
-      };
-    }
+  -- where the turn has left a folder no file stands
+  no_file_at : (q : Path) → is_in_any all q ≡ false → own q ≡ false → item_at n.tree q ≡ Some folder → file_at fold q ≡ None
+  no_file_at q out kept there =
+      related.files q (outside_all q out) kept ∙ sym (files_left q (outside_own q out) kept) ∙ no_folder_file n.tree left.stands q there
+
+  own_above : (out q : Path) → own out ≡ false → under q out ≡ true → own q ≡ false
+  own_above out q kept u = false_from_ne_true (own q) (λ e. both_ways (own out) kept (next.area.below q out e u))
+
+  abbrev first : Tree
+  first = with_folders fold [] s.dir
+
+  abbrev values : List Value
+  values = map (value_at n.tree) (stage_outs s)
+
+  abbrev last : Tree
+  last = put_values first (stage_outs s) values
+
+  -- ---- the outputs are put
+
+  stand_outs : AllByRecursion (λ p. is_nothing (value_at n.tree p) ≡ false) (stage_outs s)
+  stand_outs = seen_outs left.entry.entry s n.tree left.entry.present
+
+  above_outs : AllByRecursion (IsAbove all) (stage_outs s)
+  above_outs =
+      each_first (IsAbove all) (stage_outs s) rest (each_second (IsAbove all) done (stage_outs s ++ rest) (subst (AllByRecursion (IsAbove all)) next.split (above_outputs all next.apart)))
+
+  kept_outs : AllByRecursion (λ out. own out ≡ false) (stage_outs s)
+  kept_outs = each_from (IsApart own) (λ out. own out ≡ false) (stage_outs s) (λ p a. a p (under-refl p)) next.kept.outs
+
+  inside_outs : AllByRecursion (λ p. (q : Path) → under p q ≡ true → is_in_any (stage_outs s) q ≡ true) (stage_outs s)
+  inside_outs = in_itself (stage_outs s)
+
+  outs_now : AllByRecursion (IsOutNow own all (stage_outs s ++ rest) n.tree) (stage_outs s)
+  outs_now =
+      let places = each_both (λ p. (q : Path) → under p q ≡ true → is_in_any (stage_outs s) q ≡ true) (IsAbove all) (λ p. ((q : Path) → under p q ≡ true → is_in_any (stage_outs s) q ≡ true) × IsAbove all p) (stage_outs s) (λ p a b. (a, b)) inside_outs above_outs in
+      let stand = each_both (λ p. own p ≡ false) (λ p. is_nothing (value_at n.tree p) ≡ false) (λ p. (own p ≡ false) × (is_nothing (value_at n.tree p) ≡ false)) (stage_outs s) (λ p a b. (a, b)) kept_outs stand_outs in
+      each_both (λ p. ((q : Path) → under p q ≡ true → is_in_any (stage_outs s) q ≡ true) × IsAbove all p) (λ p. (own p ≡ false) × (is_nothing (value_at n.tree p) ≡ false)) (IsOutNow own all (stage_outs s ++ rest) n.tree) (stage_outs s)
+      (λ p a b. record { inside = λ q u. any_first (λ out. under out q) (stage_outs s) rest (a.0 q u); above = a.1; kept = b.0; stands = b.1 }) places stand
+
+  free_above : (out q : Path) → IsOutNow own all (stage_outs s ++ rest) n.tree out → under out q ≡ false → under q out ≡ true → file_at fold q ≡ None
+  free_above out q now side up =
+      let w : is_within out q ≡ true = within out q up (λ e. both_ways (under out q) side (subst (λ (x : Path). under out x ≡ true) (sym e) (under-refl out))) in
+      no_file_at q (now.above q w) (own_above out q now.kept up) (stands_above n.tree left.stands out q (some_value n.tree out now.stands) w)
+
+  free_out : (out : Path) → IsOutNow own all (stage_outs s ++ rest) n.tree out → IsFree first out
+  free_out out now q over =
+      folders_files s.dir [] fold q ∙ elim (cases_Bool (under out q)) [
+        | inl down ↦ related.clear q (now.inside q down)
+        | inr side ↦
+            elim (or_cases (under q out) (under out q) over) [
+              | inl up ↦ free_above out q now side up
+              | inr down ↦ absurd (both_ways (under out q) side down)
+            ]
+      ]
+
+  put : ArePutFrom first (stage_outs s) n.tree last
+  put =
+      values_put (stage_outs s) first n.tree next.stage.apart left.stands (each_from (IsOutNow own all (stage_outs s ++ rest) n.tree) (IsFree first) (stage_outs s) free_out outs_now) (folders_roads s.dir [] fold related.roads) stand_outs
+
+  -- ---- the step
+
+  stood : AllByRecursion (λ d. is_nothing (dep_value m.tree d) ≡ false) s.deps
+  stood = stood_deps s m.tree next.stage left.seen
+
+  reads : AllByRecursion (IsRead own all (stage_outs s ++ rest)) s.deps
+  reads = reads_deps own all (stage_outs s ++ rest) s next.kept next.marked next.reads
+
+  fold_values : AllByRecursion (λ d. value_at fold d.path ≡ value_at m.tree d.path) s.deps
+  fold_values =
+      each_both (IsRead own all (stage_outs s ++ rest)) (λ d. is_nothing (dep_value m.tree d) ≡ false) (λ d. value_at fold d.path ≡ value_at m.tree d.path) s.deps (λ d r h. read_value own all done (stage_outs s ++ rest) m.tree fold tree related next.split d r h) reads stood
+
+  left_value : (d : Dep) → IsRead own all (stage_outs s ++ rest) d → is_nothing (dep_value m.tree d) ≡ false → value_at n.tree d.path ≡ value_at m.tree d.path
+  left_value d r h =
+      stay_value own (is_way s) (stage_outs s) m.tree n.tree d.path tree left.stands left.others (any_parts (overlap d.path) (stage_outs s) rest r.apart).0 r.kept (some_value m.tree d.path (stands_inside d.inside (value_at m.tree d.path) h))
+
+  left_values : AllByRecursion (λ d. value_at n.tree d.path ≡ value_at m.tree d.path) s.deps
+  left_values =
+      each_both (IsRead own all (stage_outs s ++ rest)) (λ d. is_nothing (dep_value m.tree d) ≡ false) (λ d. value_at n.tree d.path ≡ value_at m.tree d.path) s.deps left_value reads stood
+
+  same_values : AllByRecursion (λ d. value_at fold d.path ≡ value_at n.tree d.path) s.deps
+  same_values =
+      each_both (λ d. value_at fold d.path ≡ value_at m.tree d.path) (λ d. value_at n.tree d.path ≡ value_at m.tree d.path) (λ d. value_at fold d.path ≡ value_at n.tree d.path) s.deps (λ d a b. a ∙ sym b) fold_values left_values
+
+  param_file : (p : Path) → list_any (overlap p) (stage_outs s ++ rest) ≡ false → IsApart own p → file_at fold p ≡ file_at n.tree p
+  param_file p out apart =
+      let later = outside_outs p p (stage_outs s ++ rest) out (under-refl p) in
+      let kept = apart p (under-refl p) in
+      related.files p later kept ∙ sym (files_left p (any_parts (λ out. under out p) (stage_outs s) rest later).0 kept)
+
+  same_read : params_at s fold ≡ params_at s n.tree
+  same_read =
+      same_params n.tree fold s.params (each_from (λ w. (list_any (overlap w.path) (stage_outs s ++ rest) ≡ false) × IsApart own w.path) (λ w. file_at fold w.path ≡ file_at n.tree w.path) s.params (λ w a. param_file w.path a.0 a.1) (reads_params own (stage_outs s ++ rest) s next.kept next.reads))
+
+  abbrev ps : List ParamFile
+  ps = left.made.params
+
+  gave : effect (invocation_of (job_with s ps) fold) ≡ gives values
+  gave = ap effect (same_given s ps n.tree fold next.stage same_values) ∙ left.made.made
+
+  none_gone : list_any (λ d. is_nothing (dep_value fold d)) s.deps ≡ false
+  none_gone =
+      none_true (λ d. is_nothing (dep_value fold d)) s.deps (each_both (λ d. value_at fold d.path ≡ value_at m.tree d.path) (λ d. is_nothing (dep_value m.tree d) ≡ false) (λ d. is_nothing (dep_value fold d) ≡ false) s.deps (λ d e h. ap (λ (v : Value). is_nothing (value_inside d.inside v)) e ∙ h) fold_values stood)
+
+  none_missing : list_any is_nothing values ≡ false
+  none_missing = none_true is_nothing values (each_map (value_at n.tree) (λ v. is_nothing v ≡ false) (stage_outs s) stand_outs)
+
+  none_blocked : list_any (is_blocked last []) (stage_outs s) ≡ false
+  none_blocked =
+      none_true (is_blocked last []) (stage_outs s) (each_from (λ p. (q : Path) → is_within p q ≡ true → item_at last q ≡ Some folder) (λ p. is_blocked last [] p ≡ false) (stage_outs s) (λ p road. is_blocked_road last [] p road) put.made)
+
+  stepped : anew_step effect s fold ≡ Some last
+  stepped =
+      ap (λ (b : Bool). cond b None (run_with effect s fold (params_at s fold))) none_gone
+      ∙ ap (run_with effect s fold) (same_read ∙ left.made.read)
+      ∙ ap (after_outcome first (stage_outs s)) gave
+      ∙ outcome_put first (stage_outs s) values none_missing none_blocked
+
+  -- ---- the trees are related still
+
+  grown : (q : Path) → is_in_any (stage_outs s) q ≡ false → Grows fold last q
+  grown q out = grows_then fold first last q (folders_grow s.dir [] fold q) (put.grows q out)
+
+  folder_above : (q x : Path) → item_at n.tree q ≡ Some folder → under x q ≡ true → (x ≡ q) ⊎ (x ≢ q) → item_at n.tree x ≡ Some folder
+  folder_above q x there u (inl same) = ap (item_at n.tree) same ∙ there
+  folder_above q x there u (inr other) = stands_above n.tree left.stands q x (ap is_some there) (within q x u other)
+
+  dir_made : (q : Path) → is_in_any all q ≡ false → own q ≡ false → under q s.dir ≡ true → item_at n.tree q ≡ Some folder → item_at first q ≡ Some folder
+  dir_made q out kept u there =
+      folders_made fold s.dir q u (λ x v. clear_item fold x (no_file_at x (above_outside all x q v out) (own_above q x kept v) (folder_above q x there v (path_cases x q))))
+
+  way_made : (q : Path) → is_in_any all q ≡ false → own q ≡ false → is_way s q ≡ true → item_at n.tree q ≡ Some folder → item_at last q ≡ Some folder
+  way_made q out kept way there =
+      elim (or_cases (under q s.dir) (list_any (λ p. under q (parent p)) (stage_outs s)) way) [
+        | inl u ↦ grows_some first last q folder (put.grows q (outside_own q out)) (dir_made q out kept u there)
+        | inr h ↦ way_out (stage_outs s) last q put.made (roots_apart (stage_outs s) next.stage.apart) h
+      ]
+
+  kind_by : (q : Path) → is_in_any all q ≡ false → own q ≡ false → IsLeftAt (is_way s) m.tree n.tree q → Grows m.tree last q → Grows n.tree last q
+  kind_by q out kept (inl same) (inl e) = inl (e ∙ sym same)
+  kind_by q out kept (inl same) (inr made) = inr (same ∙ made.0, made.1)
+  kind_by q out kept (inr made) grows = inl (way_made q out kept made.0 made.1.1 ∙ sym made.1.1)
+
+  kinds : (q : Path) → is_in_any all q ≡ false → own q ≡ false → Grows n.tree last q
+  kinds q out kept =
+      let here = outside_own q out in
+      kind_by q out kept (left.others q here kept) (grows_then m.tree fold last q (related.kinds q out kept) (grown q here))
+
+  files : (q : Path) → is_in_any rest q ≡ false → own q ≡ false → file_at last q ≡ file_at n.tree q
+  files q out kept =
+      elim (cases_Bool (is_in_any (stage_outs s) q)) [
+        | inl inside ↦ put.inside q inside
+        | inr here ↦
+            put.others q here
+            ∙ folders_files s.dir [] fold q
+            ∙ related.files q (any_neither (λ p. under p q) (stage_outs s) rest here out) kept
+            ∙ sym (files_left q here kept)
+      ]
+
+  apart_next : are_apart (stage_outs s ++ rest) ≡ true
+  apart_next = apart_later done (stage_outs s ++ rest) (ap are_apart (sym next.split) ∙ next.apart)
+
+  clear : (q : Path) → is_in_any rest q ≡ true → file_at last q ≡ None
+  clear q inside =
+      put.others q (apart_lists (stage_outs s) rest apart_next q inside)
+      ∙ folders_files s.dir [] fold q
+      ∙ related.clear q (any_second (λ p. under p q) (stage_outs s) rest inside)
+
+  done_apart : AllByRecursion (λ out. list_any (overlap out) (stage_outs s ++ rest) ≡ false) done
+  done_apart = apart_overlap done (stage_outs s ++ rest) (ap are_apart (sym next.split) ∙ next.apart)
+
+  kept_out : (out : Path) → (list_any (overlap out) (stage_outs s ++ rest) ≡ false) × (own out ≡ false) → (item_at fold out ≡ item_at m.tree out) × IsSome (item_at m.tree out) → (item_at last out ≡ item_at n.tree out) × IsSome (item_at n.tree out)
+  kept_out out place made =
+      let here : is_in_any (stage_outs s) out ≡ false =
+      (any_parts (λ p. under p out) (stage_outs s) rest (outside_outs out out (stage_outs s ++ rest) place.0 (under-refl out))).0 in
+      let stays : item_at n.tree out ≡ item_at m.tree out = left_some (is_way s) m.tree n.tree out (left.others out here place.1) made.1 in
+      let same : item_at last out ≡ item_at fold out = grown_item fold last out (grown out here) (ap is_some made.0 ∙ made.1) in
+      (same ∙ made.0 ∙ sym stays, ap is_some stays ∙ made.1)
+
+  old_outs : AllByRecursion (λ out. (item_at last out ≡ item_at n.tree out) × IsSome (item_at n.tree out)) done
+  old_outs =
+      let places = each_both (λ out. list_any (overlap out) (stage_outs s ++ rest) ≡ false) (λ out. own out ≡ false) (λ out. (list_any (overlap out) (stage_outs s ++ rest) ≡ false) × (own out ≡ false)) done (λ p a b. (a, b)) done_apart next.free in
+      each_both (λ out. (list_any (overlap out) (stage_outs s ++ rest) ≡ false) × (own out ≡ false)) (λ out. (item_at fold out ≡ item_at m.tree out) × IsSome (item_at m.tree out)) (λ out. (item_at last out ≡ item_at n.tree out) × IsSome (item_at n.tree out)) done kept_out places related.made
+
+  new_outs : AllByRecursion (λ out. (item_at last out ≡ item_at n.tree out) × IsSome (item_at n.tree out)) (stage_outs s)
+  new_outs =
+      each_both (λ out. item_at last out ≡ item_at n.tree out) (λ out. is_nothing (value_at n.tree out) ≡ false) (λ out. (item_at last out ≡ item_at n.tree out) × IsSome (item_at n.tree out)) (stage_outs s) (λ p e h. (e, some_value n.tree p h)) put.there stand_outs
+
+  pub step_law : HasStep own effect all (done ++ stage_outs s) rest s n.tree fold
+  step_law = record {
+    tree = last;
+    step = stepped;
+    related = record {
+      files = files;
+      kinds = kinds;
+      clear = clear;
+      made = each_all (λ out. (item_at last out ≡ item_at n.tree out) × IsSome (item_at n.tree out)) done (stage_outs s) old_outs new_outs;
+      roads = put.roads;
+    };
+  }

@@ -1,227 +1,143 @@
--- What a turn has left, by its choice, and what stays of it in later turns.
---     present_same     the present entry depends on the files at the stage's paths alone
---     skip_parts       a skip is chosen only where there are dependencies, and the lock's entry is the present one
---     run_made         a run leaves what the effect gives in the tree that it leaves
---     left_law         what either choice has left, and that its entry is true
---     turns_keep, turns_keep_entry, turns_keep_others     what turns leave alone
-use Rattle.std.proofs.Common.{◌≡◌, ℕ, Bool, true, false, cond, List, [], ◌∷◌, ◌++◌, map, refl, sym, ap, subst, ◌∙◌, Option, Some, None}
-use Rattle.std.specs.Prelude.{bytes_eq}
+-- What turns leave, one after another.
+--     IsLine              each stage of a list lies apart from the later ones
+--     turns_stay          each path outside the outputs and the tool's own is left
+--     entry_after         the entry of a stage before them stays present
+--     covers_before       what the book covers of it at the end it covered before them
+--     entries_of_turns    the lock has the present entry of each stage that had its turn
+--     lefts_of_turns      what each turn has left, and the lock is truthful
+use Rattle.std.proofs.Common.{◌≡◌, ℕ, Bool, true, false, List, [], ◌∷◌, ◌++◌, map, sym, ap, subst, ◌∙◌, inl}
+use Rattle.std.specs.Prelude.{bytes_eq, ⊤}
 use Rattle.std.specs.List.{AllByRecursion, flat_map}
-use Rattle.std.proofs.lemmas.Bool.{or_parts, or_from}
+use Rattle.std.proofs.lemmas.Bool.{or_parts}
 use Rattle.dvc_base.specs.Path.{Path, under}
-use Rattle.world_api.specs.Tree.{Tree, Item, folder, file, IsTree, item_at, value_of, value_at}
-use Rattle.world_api.specs.Effect.{Effect, path_from, is_in_any}
-use Rattle.world_api.specs.Calls.{IsFileAt}
-use Rattle.file_hash.specs.Naming.{named_of}
-use Rattle.file_hash.specs.declared.named.Named.{Named}
-use Rattle.lock_files.specs.declared.entry.Entry.{Entry}
-use Rattle.lock_files.specs.declared.entry.PathEntry.{PathEntry}
-use Rattle.repro_laws.specs.Stage.{dep_paths, stage_outs, in_order, IsReady}
-use Rattle.repro_laws.specs.Book.{Book}
-use Rattle.repro_laws.specs.Entries.{named_path, in_front, named_paths, entry_from, present_entry, IsPresent, told_of}
-use Rattle.change_check.specs.Same.{same_entry}
-use Rattle.lock_files.specs.Book.{Lock, entry_of}
-use Rattle.repro_laws.specs.Lock.{is_among, others_of, IsTruthful}
-use Rattle.repro_laws.specs.Choices.{choice_by, is_always_changed, choice_of, lock_after}
-use Rattle.repro_laws.specs.Turns.{Standing, Runs, Turn, Turns, stages_of}
-use Rattle.repro_laws.specs.Headline.{IsKept, Covers}
+use Rattle.world_api.specs.Tree.{IsTree, item_at}
+use Rattle.world_api.specs.Effect.{Effect}
+use Rattle.world_api.specs.History.{Book}
+use Rattle.world_api.specs.Calls.{are_apart}
+use Rattle.lock_files.specs.Book.{entry_of}
+use Rattle.repro_laws.specs.Stage.{stage_outs, IsStage}
+use Rattle.repro_laws.specs.Lock.{is_among, IsTruthful, HasEntry}
+use Rattle.repro_laws.specs.Due.{Due}
+use Rattle.repro_laws.specs.Turns.{State, is_way, Turns, stages_of, Lefts}
+use Rattle.repro_laws.specs.Headline.{IsOwn, IsKept, IsPlanned, is_ordered, have_names, is_any_way, Covers, IsMet, IsGiven}
 use Rattle.repro_laws.specs.declared.stage.Stage.{Stage}
-use Rattle.repro_laws.specs.declared.stage.Choice.{Choice}
-use Rattle.repro_laws.specs.declared.stage.Choice.TheVariants.{Skip, Run}
-use Rattle.repro_laws.proofs.AnewLemmas.{each_both, deps_outside}
-use Rattle.repro_laws.proofs.NameLaw.{front_parts, named_parts, entry_parts, IsMade, skip_law, run_true}
-use Rattle.repro_laws.proofs.LockLaw.{entry_of-set_same, entry_of-set_other, others_of-set, truthful_set}
-use Rattle.change_check.proofs.SameLemmas.{entry_same}
-use Rattle.repro_laws.proofs.StepLaw.{IsLeft, same_given}
-use Rattle.repro_laws.proofs.OrderLemmas.{all_in_order, all_as_written}
+use Rattle.repro_laws.specs.declared.stage.Flags.{Flags}
+use Rattle.repro_laws.proofs.CoverLemmas.{covers_back}
+use Rattle.repro_laws.proofs.FrontLemmas.{order_front, order_later, apart_front, names_front, name_parts}
+use Rattle.repro_laws.proofs.ListLemmas.{each_first, any_parts}
+use Rattle.repro_laws.proofs.ReadLemmas.{Stay}
+use Rattle.repro_laws.proofs.RoadLemmas.{apart_later}
+use Rattle.repro_laws.proofs.StayLaw.{left_then, IsApartLater, entry_stays, later_outs, apart_from_later}
+use Rattle.repro_laws.proofs.TurnLaw.{not_restored, turn_stays, turn_keeps_entry, turn_entry, left_of_turn, truthful_of_turn}
 
--- ---- names depend on what stands at a path alone
+-- ---- stages in a line
 
-named_by : (t u : Tree) (p : Path) (o : Option Item) → named_of (value_of u p o) ≡ named_of (value_of t p o)
-named_by t u p None = refl
-named_by t u p (Some folder) = refl
-named_by t u p (Some (file bytes)) = refl
+-- a stage, and those that come after it
+pub record IsBefore (own : Path → Bool) (s : Stage) (later : List Stage) : Type 0 where
+  pub is : IsStage s
+  pub kept : IsKept own s
+  pub order : is_ordered (s ∷ []) ≡ true
+  pub apart : IsApartLater own (later_outs later) s
+  pub name : is_among (map (λ x. x.name) later) s.name ≡ false
 
-named_same : (t u : Tree) (p : Path) → item_at u p ≡ item_at t p → named_of (value_at u p) ≡ named_of (value_at t p)
-named_same t u p e =
-    named_by t u p (item_at u p) ∙ ap (λ (o : Option Item). named_of (value_of t p o)) e
+abbrev pub IsLine : (Path → Bool) → List Stage → Type 0
+IsLine own [] = ⊤
+IsLine own (s ∷ ss) = IsBefore own s ss × IsLine own ss
 
-paths_same : (t u : Tree) (dir : Path) (texts : List (List ℕ)) → AllByRecursion (λ p. item_at u p ≡ item_at t p) (map (path_from dir) texts) → named_paths u dir texts ≡ named_paths t dir texts
-paths_same t u dir [] same = refl
-paths_same t u dir (text ∷ texts) same =
-    ap (λ (n : Option Named). in_front (named_path text n) (named_paths u dir texts)) (named_same t u (path_from dir text) same.0) ∙ ap (λ (ps : Option (List PathEntry)). in_front (named_path text (named_of (value_at t (path_from dir text)))) ps) (paths_same t u dir texts same.1)
-
-abbrev IsSameAt : Tree → Tree → Path → List (List ℕ) → Type 0
-IsSameAt t u dir texts = AllByRecursion (λ p. item_at u p ≡ item_at t p) (map (path_from dir) texts)
-
-pub present_same : (s : Stage) (t u : Tree) → IsReady s → AllByRecursion (λ p. item_at u p ≡ item_at t p) (dep_paths s) → AllByRecursion (λ p. item_at u p ≡ item_at t p) (stage_outs s) → present_entry s u ≡ present_entry s t
-present_same s t u ready deps outs =
-    let deps_in = paths_same t u s.dir (in_order s.deps) (all_in_order (path_from s.dir) (λ p. item_at u p ≡ item_at t p) s.deps deps) in
-    let outs_in = paths_same t u s.dir (in_order s.outs) (subst (IsSameAt t u s.dir) (sym ready.outs) outs) in
-    ap (λ (ps : Option (List PathEntry)). entry_from s.commands ps (named_paths u s.dir (in_order s.outs))) deps_in ∙ ap (λ (ps : Option (List PathEntry)). entry_from s.commands (named_paths t s.dir (in_order s.deps)) ps) outs_in
-
--- ---- what has a name is a file
-
-file_of_named : (t : Tree) (p : Path) (o : Option Item) (n : Named) → named_of (value_of t p o) ≡ Some n → (bytes : List ℕ) × (o ≡ Some (file bytes))
-file_of_named t p None n e = absurd (cc)
-file_of_named t p (Some folder) n e = absurd (cc)
-file_of_named t p (Some (file bytes)) n e = (bytes, refl)
-
-files_named : (t : Tree) (dir : Path) (texts : List (List ℕ)) (entries : List PathEntry) → named_paths t dir texts ≡ Some entries → AllByRecursion (IsFileAt t) (map (path_from dir) texts)
-files_named t dir [] entries e = tt
-files_named t dir (text ∷ texts) entries e =
-    let p = path_from dir text in
-    let parts = front_parts (named_path text (named_of (value_at t p))) (named_paths t dir texts) entries e in
-    let named = named_parts text (named_of (value_at t p)) parts.0 parts.2 in
-    (file_of_named t p (item_at t p) (told_of parts.0) named.0, files_named t dir texts parts.1 parts.3)
-
-abbrev AreFiles : Tree → Path → List (List ℕ) → Type 0
-AreFiles t dir texts = AllByRecursion (IsFileAt t) (map (path_from dir) texts)
-
-pub files_present : (s : Stage) (t : Tree) (e : Entry) → IsReady s → IsPresent e s t → AllByRecursion (IsFileAt t) (dep_paths s) × AllByRecursion (IsFileAt t) (stage_outs s)
-files_present s t e ready present =
-    let parts = entry_parts s.commands (named_paths t s.dir (in_order s.deps)) (named_paths t s.dir (in_order s.outs)) e present in (
-      all_as_written (path_from s.dir) (IsFileAt t) s.deps (files_named t s.dir (in_order s.deps) e.deps parts.1),
-      subst (AreFiles t s.dir) ready.outs (files_named t s.dir (in_order s.outs) e.outs parts.2),
+line_from : (own : Path → Bool) (ss : List Stage) → AllByRecursion IsStage ss → AllByRecursion (IsKept own) ss → have_names ss ≡ true → is_ordered ss ≡ true → are_apart (flat_map stage_outs ss) ≡ true → IsLine own ss
+line_from own [] each kept names order apart = tt
+line_from own (s ∷ ss) each kept names order apart =
+    let name = name_parts s ss names in (
+      record {
+        is = each.0;
+        kept = kept.0;
+        order = order_front (s ∷ []) ss order;
+        apart = apart_from_later own s ss kept.0 order apart;
+        name = name.0;
+      },
+      line_from own ss each.1 kept.1 name.1 (order_later s ss order) (apart_later (stage_outs s) (flat_map stage_outs ss) apart),
     )
 
--- ---- the choice
-
-abbrev AreSame : Option Entry → Option Entry → Type 0
-AreSame a b = (e : Entry) × (a ≡ Some e) × (b ≡ Some e)
-
-skip_cases : (x y : Entry) (b : Bool) → same_entry x y ≡ b → cond b Skip Run ≡ Skip → AreSame (Some x) (Some y)
-skip_cases x y true same e = (x, refl, ap (λ (z : Entry). Some z) (sym (entry_same x y same)))
-skip_cases x y false same e = absurd (cc)
-
-entries_same : (a b : Option Entry) → choice_by a b ≡ Skip → AreSame a b
-entries_same None b e = absurd (cc)
-entries_same (Some x) None e = absurd (cc)
-entries_same (Some x) (Some y) e = skip_cases x y (same_entry x y) refl e
-
-never_skipped : (b : Bool) (c : Choice) → cond b Run c ≡ Skip → (b ≡ false) × (c ≡ Skip)
-never_skipped true c e = absurd (cc)
-never_skipped false c e = (refl, e)
-
-pub record IsSkipped (s : Stage) (t : Tree) (lock : Lock) : Type 0 where
-  pub dependent : is_always_changed s ≡ false
-  pub entry : Entry
-  pub there : entry_of lock s.name ≡ Some entry
-  pub present : IsPresent entry s t
-
-pub skip_parts : (s : Stage) (t : Tree) (lock : Lock) → choice_of s t lock ≡ Skip → IsSkipped s t lock
-skip_parts s t lock e =
-    let chosen = never_skipped (is_always_changed s) (choice_by (entry_of lock s.name) (present_entry s t)) e in
-    let same = entries_same (entry_of lock s.name) (present_entry s t) chosen.1 in
-    record { dependent = chosen.0; entry = same.0; there = same.1; present = same.2 }
-
--- ---- what a turn has left
-
--- the lock has the stage's present entry after its turn
-pub record HasTurned (s : Stage) (c : Choice) (m n : Standing) : Type 0 where
-  pub entry : Entry
-  pub there : entry_of n.lock s.name ≡ Some entry
-  pub present : IsPresent entry s n.tree
-  pub lock : n.lock ≡ lock_after c m.lock s.name (Some entry)
-
-pub turned : (records : Path → Bool) (effect : Effect) (s : Stage) (c : Choice) (m n : Standing) → Turn records effect s c m n → HasTurned s c m n
-turned records effect s Skip m n turn =
-    let parts = skip_parts s m.tree m.lock turn.chosen in
-    record {
-      entry = parts.entry;
-      there = ap (λ (x : Standing). entry_of x.lock s.name) turn.left ∙ parts.there;
-      present = ap (λ (x : Standing). present_entry s x.tree) turn.left ∙ parts.present;
-      lock = ap (λ (x : Standing). x.lock) turn.left;
-    }
-turned records effect s Run m n turn =
-    let run = turn.left in
-    record {
-      entry = run.entry;
-      there = ap (λ (l : Lock). entry_of l s.name) run.lock ∙ entry_of-set_same m.lock s.name run.entry;
-      present = run.present;
-      lock = run.lock;
-    }
-
-pub turn_keeps : (records : Path → Bool) (effect : Effect) (s : Stage) (c : Choice) (m n : Standing) → Turn records effect s c m n → (p : Path) → is_in_any (stage_outs s) p ≡ false → records p ≡ false → item_at n.tree p ≡ item_at m.tree p
-turn_keeps records effect s Skip m n turn p out kept = ap (λ (x : Standing). item_at x.tree p) turn.left
-turn_keeps records effect s Run m n turn p out kept = let run = turn.left in run.others p out kept
-
-turn_stands : (records : Path → Bool) (effect : Effect) (s : Stage) (c : Choice) (m n : Standing) → Turn records effect s c m n → IsTree m.tree → IsTree n.tree
-turn_stands records effect s Skip m n turn tree = subst (λ (x : Standing). IsTree x.tree) (sym turn.left) tree
-turn_stands records effect s Run m n turn tree = let run = turn.left in run.stands
-
--- the dependencies lie outside the stage's own outputs and the records
-deps_kept : (records : Path → Bool) (s : Stage) (t u : Tree) → IsReady s → IsKept records s → ((p : Path) → is_in_any (stage_outs s) p ≡ false → records p ≡ false → item_at u p ≡ item_at t p) → AllByRecursion (λ p. item_at t p ≡ item_at u p) (dep_paths s)
-deps_kept records s t u ready kept others =
-    each_both (λ p. is_in_any (stage_outs s) p ≡ false) (λ p. records p ≡ false) (λ p. item_at t p ≡ item_at u p) (dep_paths s) (λ p out k. sym (others p out k)) (deps_outside (stage_outs s) (dep_paths s) ready.apart) kept.deps
-
-pub run_made : (records : Path → Bool) (effect : Effect) (s : Stage) (m n : Standing) → IsReady s → IsKept records s → Runs records effect s m n → IsMade effect s n.tree
-run_made records effect s m n ready kept run =
-    let files = files_present s n.tree run.entry ready run.present in
-    ap effect (sym (same_given s n.tree m.tree ready files.0 (deps_kept records s m.tree n.tree ready kept run.others))) ∙ run.values
-
-made_by : (records : Path → Bool) (book : Book) (effect : Effect) (s : Stage) (c : Choice) (m n : Standing) → IsReady s → IsKept records s → IsTruthful book effect m.lock → Covers book n.tree s → Turn records effect s c m n → IsMade effect s n.tree
-made_by records book effect s Skip m n ready kept truthful covers turn =
-    let parts = skip_parts s m.tree m.lock turn.chosen in
-    skip_law book effect parts.entry s n.tree ready (truthful s.name parts.entry parts.there) (ap (λ (x : Standing). present_entry s x.tree) turn.left ∙ parts.present) covers
-made_by records book effect s Run m n ready kept truthful covers turn =
-    run_made records effect s m n ready kept turn.left
-
-pub left_law : (records : Path → Bool) (book : Book) (effect : Effect) (s : Stage) (c : Choice) (m n : Standing) → IsReady s → IsKept records s → IsTree m.tree → IsTruthful book effect m.lock → Covers book n.tree s → Turn records effect s c m n → IsLeft records effect s m.tree n.tree
-left_law records book effect s c m n ready kept tree truthful covers turn =
-    let t = turned records effect s c m n turn in
-    let files = files_present s n.tree t.entry ready t.present in
-    record {
-      made = made_by records book effect s c m n ready kept truthful covers turn;
-      others = λ p out k. turn_keeps records effect s c m n turn p out k;
-      deps = files.0;
-      outs = files.1;
-      tree = turn_stands records effect s c m n turn tree;
-    }
-
-pub turn_truthful : (records : Path → Bool) (book : Book) (effect : Effect) (s : Stage) (c : Choice) (m n : Standing) → IsReady s → IsKept records s → IsTruthful book effect m.lock → Covers book n.tree s → Turn records effect s c m n → IsTruthful book effect n.lock
-turn_truthful records book effect s Skip m n ready kept truthful covers turn =
-    subst (λ (x : Standing). IsTruthful book effect x.lock) (sym turn.left) truthful
-turn_truthful records book effect s Run m n ready kept truthful covers turn =
-    let run = turn.left in
-    let made = made_by records book effect s Run m n ready kept truthful covers turn in
-    let true_entry = run_true book effect run.entry s n.tree ready run.present covers made in
-    subst (λ (l : Lock). IsTruthful book effect l) (sym run.lock) (truthful_set book effect m.lock s.name run.entry truthful true_entry)
+-- a front of a plan
+pub line_of : (own : Path → Bool) (ss others : List Stage) → IsPlanned own (ss ++ others) → IsLine own ss
+line_of own ss others plan =
+    line_from own ss (each_first IsStage ss others plan.each) (each_first (IsKept own) ss others plan.kept) (names_front ss others plan.names) (order_front ss others plan.order) (apart_front ss others plan.apart)
 
 -- ---- what turns leave alone
 
-pub is_in_any-append : (xs ys : List Path) (p : Path) → is_in_any (xs ++ ys) p ≡ false → (is_in_any xs p ≡ false) × (is_in_any ys p ≡ false)
-is_in_any-append [] ys p h = (refl, h)
-is_in_any-append (x ∷ xs) ys p h =
-    let parts = or_parts (under x p) (is_in_any (xs ++ ys) p) h in
-    let rest = is_in_any-append xs ys p parts.1 in
-    (or_from (under x p) (is_in_any xs p) parts.0 rest.0, rest.1)
+pub turns_stay : (own : Path → Bool) (flags : Flags) (effect : Effect) (ds : List Due) (m n : State) → Turns own flags effect ds m n → Stay own (is_any_way (stages_of ds)) (flat_map stage_outs (stages_of ds)) m.tree n.tree
+turns_stay own flags effect [] m n turns p out kept = inl (ap (λ (x : State). item_at x.tree p) turns)
+turns_stay own flags effect (d ∷ ds) m n turns p out kept =
+    let k = turns.0 in
+    let parts = any_parts (λ o. under o p) (stage_outs d.stage) (flat_map stage_outs (stages_of ds)) out in
+    left_then (is_way d.stage) (is_any_way (stages_of ds)) m.tree k.tree n.tree p (turn_stays own flags effect d m k turns.1 p parts.0 kept) (turns_stay own flags effect ds k n turns.2 p parts.1 kept)
 
-pub turns_keep : (records : Path → Bool) (effect : Effect) (cs : List (Stage × Choice)) (m n : Standing) → Turns records effect cs m n → (p : Path) → is_in_any (flat_map stage_outs (stages_of cs)) p ≡ false → records p ≡ false → item_at n.tree p ≡ item_at m.tree p
-turns_keep records effect [] m n turns p out kept = ap (λ (x : Standing). item_at x.tree p) turns
-turns_keep records effect (c ∷ cs) m n turns p out kept =
-    let parts = is_in_any-append (stage_outs c.0) (flat_map stage_outs (stages_of cs)) p out in
-    turns_keep records effect cs turns.0 n turns.2 p parts.1 kept ∙ turn_keeps records effect c.0 c.1 m turns.0 turns.1 p parts.0 kept
+pub turns_stand : (own : Path → Bool) (flags : Flags) (effect : Effect) (ds : List Due) (m n : State) → Turns own flags effect ds m n → IsTree m.tree → IsTree n.tree
+turns_stand own flags effect [] m n turns tree = subst (λ (x : State). IsTree x.tree) (sym turns) tree
+turns_stand own flags effect (d ∷ ds) m n turns tree =
+    let turn = turns.1 in
+    turns_stand own flags effect ds turns.0 n turns.2 turn.stands
 
-turn_keeps_entry : (records : Path → Bool) (effect : Effect) (s : Stage) (c : Choice) (m n : Standing) → Turn records effect s c m n → (name : List ℕ) → bytes_eq s.name name ≡ false → entry_of n.lock name ≡ entry_of m.lock name
-turn_keeps_entry records effect s Skip m n turn name other = ap (λ (x : Standing). entry_of x.lock name) turn.left
-turn_keeps_entry records effect s Run m n turn name other =
-    let run = turn.left in
-    ap (λ (l : Lock). entry_of l name) run.lock ∙ entry_of-set_other m.lock s.name run.entry name other
+pub turns_keep_entry : (own : Path → Bool) (flags : Flags) (effect : Effect) (ds : List Due) (m n : State) → Turns own flags effect ds m n → (name : List ℕ) → is_among (map (λ x. x.name) (stages_of ds)) name ≡ false → entry_of n.lock name ≡ entry_of m.lock name
+turns_keep_entry own flags effect [] m n turns name other = ap (λ (x : State). entry_of x.lock name) turns
+turns_keep_entry own flags effect (d ∷ ds) m n turns name other =
+    let k = turns.0 in
+    let parts = or_parts (bytes_eq d.stage.name name) (is_among (map (λ x. x.name) (stages_of ds)) name) other in
+    turns_keep_entry own flags effect ds k n turns.2 name parts.1 ∙ turn_keeps_entry own flags effect d m k turns.1 name parts.0
 
-pub turns_keep_entry : (records : Path → Bool) (effect : Effect) (cs : List (Stage × Choice)) (m n : Standing) → Turns records effect cs m n → (name : List ℕ) → is_among (map (λ s. s.name) (stages_of cs)) name ≡ false → entry_of n.lock name ≡ entry_of m.lock name
-turns_keep_entry records effect [] m n turns name other = ap (λ (x : Standing). entry_of x.lock name) turns
-turns_keep_entry records effect (c ∷ cs) m n turns name other =
-    let parts = or_parts (bytes_eq c.0.name name) (is_among (map (λ s. s.name) (stages_of cs)) name) other in
-    turns_keep_entry records effect cs turns.0 n turns.2 name parts.1 ∙ turn_keeps_entry records effect c.0 c.1 m turns.0 turns.1 name parts.0
+-- ---- a stage before them
 
-turn_keeps_others : (records : Path → Bool) (effect : Effect) (s : Stage) (c : Choice) (m n : Standing) → Turn records effect s c m n → (names : List (List ℕ)) → is_among names s.name ≡ true → others_of names n.lock ≡ others_of names m.lock
-turn_keeps_others records effect s Skip m n turn names among = ap (λ (x : Standing). others_of names x.lock) turn.left
-turn_keeps_others records effect s Run m n turn names among =
-    let run = turn.left in
-    ap (others_of names) run.lock ∙ others_of-set names m.lock s.name run.entry among
+pub entry_after : (own : Path → Bool) (flags : Flags) (effect : Effect) (s : Stage) (ds : List Due) (m n : State) → IsBefore own s (stages_of ds) → IsTree m.tree → Turns own flags effect ds m n → HasEntry m.lock m.tree s → HasEntry n.lock n.tree s
+entry_after own flags effect s ds m n before tree turns has =
+    let moved = entry_stays own (is_any_way (stages_of ds)) (later_outs (stages_of ds)) s m.tree n.tree tree (turns_stand own flags effect ds m n turns tree) (turns_stay own flags effect ds m n turns) before.apart m.lock has in
+    record {
+      entry = moved.entry;
+      there = turns_keep_entry own flags effect ds m n turns s.name before.name ∙ moved.there;
+      present = moved.present;
+    }
 
-pub turns_keep_others : (records : Path → Bool) (effect : Effect) (cs : List (Stage × Choice)) (m n : Standing) → Turns records effect cs m n → (names : List (List ℕ)) → AllByRecursion (λ c. is_among names c.0.name ≡ true) cs → others_of names n.lock ≡ others_of names m.lock
-turns_keep_others records effect [] m n turns names among = ap (λ (x : Standing). others_of names x.lock) turns
-turns_keep_others records effect (c ∷ cs) m n turns names among =
-    turns_keep_others records effect cs turns.0 n turns.2 names among.1 ∙ turn_keeps_others records effect c.0 c.1 m turns.0 turns.1 names among.0
+pub covers_before : (own : Path → Bool) (flags : Flags) (book : Book) (effect : Effect) (s : Stage) (ds : List Due) (m n : State) → IsBefore own s (stages_of ds) → IsTree m.tree → Turns own flags effect ds m n → Covers book n.tree s → Covers book m.tree s
+covers_before own flags book effect s ds m n before tree turns covers =
+    covers_back own (is_any_way (stages_of ds)) (later_outs (stages_of ds)) book m.tree n.tree tree (turns_stand own flags effect ds m n turns tree) (turns_stay own flags effect ds m n turns) s before.apart covers
+
+-- ---- all turns
+
+pub entries_of_turns : (own : Path → Bool) (flags : Flags) (effect : Effect) (ds : List Due) (m n : State) → IsLine own (stages_of ds) → IsTree m.tree → Turns own flags effect ds m n → AllByRecursion (HasEntry n.lock n.tree) (stages_of ds)
+entries_of_turns own flags effect [] m n line tree turns = tt
+entries_of_turns own flags effect (d ∷ ds) m n line tree turns =
+    let k = turns.0 in
+    let turn = turns.1 in
+    let before = line.0 in
+    let has = turn_entry own flags effect d m k before.is before.kept before.order tree turn in
+    (entry_after own flags effect d.stage ds k n before turn.stands turns.2 has, entries_of_turns own flags effect ds k n line.1 turn.stands turns.2)
+
+met_all : (book : Book) (n : State) (ss : List Stage) → AllByRecursion (HasEntry n.lock n.tree) ss → IsMet book ss n → AllByRecursion (Covers book n.tree) ss
+met_all book n [] entries met = tt
+met_all book n (s ∷ ss) entries met = (met.0 entries.0, met_all book n ss entries.1 met.1)
+
+pub record HasLefts (own : Path → Bool) (book : Book) (effect : Effect) (ss : List Stage) (m n : State) : Type 0 where
+  pub lefts : Lefts own effect ss m n
+  pub truthful : IsTruthful book effect n.lock
+
+lefts_covered : (own : Path → Bool) (flags : Flags) (book : Book) (effect : Effect) (ds : List Due) (m n : State) → IsOwn own → flags.run_cache ≡ false → IsLine own (stages_of ds) → IsTree m.tree → IsTruthful book effect m.lock → Turns own flags effect ds m n → AllByRecursion (Covers book n.tree) (stages_of ds) → HasLefts own book effect (stages_of ds) m n
+lefts_covered own flags book effect [] m n area cache line tree truthful turns covers =
+    record {
+      lefts = turns;
+      truthful = subst (λ (x : State). IsTruthful book effect x.lock) (sym turns) truthful;
+    }
+lefts_covered own flags book effect (d ∷ ds) m n area cache line tree truthful turns covers =
+    let k = turns.0 in
+    let turn = turns.1 in
+    let before = line.0 in
+    let apart = not_restored own flags effect d m k turn cache in
+    let here = covers_before own flags book effect d.stage ds k n before turn.stands turns.2 covers.0 in
+    let left = left_of_turn own flags book effect d m k area before.is before.kept before.order tree truthful turn apart here in
+    let later = truthful_of_turn own flags book effect d m k area before.is before.kept before.order tree truthful turn apart here in
+    let rest = lefts_covered own flags book effect ds k n area cache line.1 turn.stands later turns.2 covers.1 in
+    record { lefts = (k, left, rest.lefts); truthful = rest.truthful }
+
+pub lefts_of_turns : (own : Path → Bool) (flags : Flags) (book : Book) (effect : Effect) (ds : List Due) (others : List Stage) (old new : State) → IsGiven own flags book effect ds others old new → HasLefts own book effect (stages_of ds) old new
+lefts_of_turns own flags book effect ds others old new given =
+    let line = line_of own (stages_of ds) others given.planned in
+    let entries = entries_of_turns own flags effect ds old new line given.stands given.turns in
+    lefts_covered own flags book effect ds old new given.area given.no_restore line given.stands given.truthful given.turns (met_all book new (stages_of ds) entries given.met)

@@ -1,16 +1,16 @@
--- The book of contents met, and the values that are its own.
+-- Values that are the book's: contents that were met, each under its MD5.
 --     IsIn book bytes       the content that the book has under the MD5 of these bytes is just these bytes
---     IsBooks book v        the value is a file with a content of the book
---     IsCovered book v      the value has no name, or is the book's
---     IsGrown a b           the second book has all that the first one has
+--     IsBooks book v        a file's content is the book's; a folder's listing and the content of each file
+--     IsCovered book v      nothing stands there, or the value is the book's
 -- A book has one content under each digest. That two contents never share an MD5 is nowhere assumed.
-use Rattle.std.specs.Prelude.{◌≡◌, ℕ, List, Option, Some, ⊤}
+use Rattle.std.specs.Prelude.{◌≡◌, ℕ, List, Some, ⊤}
+use Rattle.std.specs.FinMap.{get}
 use Rattle.md5.specs.Md5.{md5}
+use Rattle.dvc_base.specs.Path.{Path}
 use Rattle.world_api.specs.Tree.{Value, nothing, content, members}
-
--- from digests to contents
-abbrev pub Book : Type 0
-Book = List ℕ → Option (List ℕ)
+use Rattle.world_api.specs.History.{Book}
+use Rattle.file_hash.specs.Files.{IsFileMap}
+use Rattle.file_hash.specs.Listing.{listing_of, listing_text}
 
 abbrev pub IsIn : Book → List ℕ → Type 0
 IsIn book bytes = book (md5 bytes) ≡ Some bytes
@@ -18,13 +18,9 @@ IsIn book bytes = book (md5 bytes) ≡ Some bytes
 abbrev pub IsBooks : Book → Value → Type 0
 IsBooks book nothing = ⊥
 IsBooks book (content bytes) = IsIn book bytes
-IsBooks book (members files) = ⊥
+IsBooks book (members m) =
+    IsFileMap m × (IsIn book (listing_text (listing_of m)) × ((p : Path) (bytes : List ℕ) → get m p ≡ Some bytes → IsIn book bytes))
 
--- a folder has no name yet, so nothing is asked of its files
 abbrev pub IsCovered : Book → Value → Type 0
 IsCovered book nothing = ⊤
-IsCovered book (content bytes) = IsIn book bytes
-IsCovered book (members files) = ⊤
-
-abbrev pub IsGrown : Book → Book → Type 0
-IsGrown a b = (digest bytes : List ℕ) → a digest ≡ Some bytes → b digest ≡ Some bytes
+IsCovered book v = IsBooks book v

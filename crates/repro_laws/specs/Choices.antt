@@ -1,69 +1,60 @@
--- What a turn chooses, and what is due of a list of stages where something is remembered.
---     is_always_changed s          the stage has no dependencies
---     choice_of s t lock           Run of a stage that is always changed, Skip where the lock's entry is the same as the present
---                                  one, else Run
---     due effect stages t lock     the choices along the order: up to a stage that lacks a dependency, or a run that is refused
---     fault_of effect stages t lock      the refusal that is due, if there is one
--- In what is due each turn gives the stage's outputs their values anew, and a run gives the lock its entry.
-use Rattle.std.specs.Prelude.{ℕ, Bool, List, [], ◌∷◌, length, Option, Some, None, is_some, ◌==◌, if◌then◌else◌}
-use Rattle.world_api.specs.Tree.{Tree}
-use Rattle.dvc_base.specs.declared.fault.Fault.{Fault}
-use Rattle.world_api.specs.Effect.{Effect, invocation_of}
+-- What a turn chooses: by what is seen of the stage, what the cache holds and what the lock remembers, and by no tree.
+--     choice_of flags s seen stored lock     the choice, and for a restore the entry to restore from
+use Rattle.std.specs.Prelude.{Bool, true, false, ◌&&◌, ◌||◌, List, [], ◌∷◌, Option, Some, None, if◌then◌else◌}
+use Rattle.std.specs.Option.{option_or}
 use Rattle.lock_files.specs.declared.entry.Entry.{Entry}
-use Rattle.repro_laws.specs.Stage.{job_of, dep_paths, stage_outs}
-use Rattle.repro_laws.specs.Anew.{without, anew_step}
-use Rattle.repro_laws.specs.Due.{dep_fault, outcome_fault, first_fault, following}
-use Rattle.repro_laws.specs.Entries.{present_entry}
-use Rattle.change_check.specs.Same.{same_entry}
-use Rattle.lock_files.specs.Book.{Lock, entry_of, set}
+use Rattle.lock_files.specs.declared.entry.PathEntry.{PathEntry}
+use Rattle.lock_files.specs.Book.{Lock, entry_of}
+use Rattle.change_check.specs.Same.{told_of, is_named, same_entry, agrees}
+use Rattle.change_check.specs.declared.seen.SeenPath.{SeenPath}
+use Rattle.change_check.specs.declared.seen.Seen.{Seen}
+use Rattle.repro_laws.specs.Stored.{Stored, is_held}
+use Rattle.repro_laws.specs.declared.stage.Out.{Out}
 use Rattle.repro_laws.specs.declared.stage.Stage.{Stage}
+use Rattle.repro_laws.specs.declared.stage.Flags.{Flags}
 use Rattle.repro_laws.specs.declared.stage.Choice.{Choice}
-use Rattle.repro_laws.specs.declared.stage.Choice.TheVariants.{Skip, Run}
+use Rattle.repro_laws.specs.declared.stage.Choice.TheVariants.{Skip, Restore, Run}
 
--- the choice by what is remembered, and by what stands there
-abbrev pub choice_by : Option Entry → Option Entry → Choice
-choice_by None present = Run
-choice_by (Some remembered) None = Run
-choice_by (Some remembered) (Some present) = if same_entry remembered present then Skip else Run
+abbrev pub is_same_as : Option Entry → Seen → Bool
+is_same_as None seen = false
+is_same_as (Some e) seen = same_entry e seen
 
--- nothing tells whether such a stage would make other outputs
-abbrev pub is_always_changed : Stage → Bool
-is_always_changed s = length s.deps == 0
+-- ---- restoring
 
-abbrev pub choice_of : Stage → Tree → Lock → Choice
-choice_of s t lock =
-    if is_always_changed s then Run else choice_by (entry_of lock s.name) (present_entry s t)
+-- an output can be had: it stands there with the name of the entry, or it is a cached one whose name the cache holds
+abbrev pub can_have : Stored → Out → SeenPath → PathEntry → Bool
+can_have stored o seen e = is_named (told_of e) seen.named || (o.cached && is_held stored.objects e.name)
 
--- the lock after a turn of this choice, for a stage of this name
-abbrev pub lock_after : Choice → Lock → List ℕ → Option Entry → Lock
-lock_after Skip lock name entry = lock
-lock_after Run lock name None = lock
-lock_after Run lock name (Some entry) = set lock name entry
+abbrev pub can_have_all : Stored → List Out → List SeenPath → List PathEntry → Bool
+can_have_all stored [] [] [] = true
+can_have_all stored (o ∷ os) (p ∷ ps) (e ∷ es) = can_have stored o p e && can_have_all stored os ps es
+can_have_all stored _ _ _ = false
 
--- the tree after a stage's turn: its outputs are made anew; none where the run is refused, or they can't be made
-abbrev pub tree_next : Effect → Stage → Tree → Option Tree
-tree_next effect s t =
-    if is_some (outcome_fault s (effect (invocation_of (job_of s) t))) then None
-    else anew_step effect s (without t (stage_outs s))
+abbrev pub is_restorable : Stored → Stage → Seen → Entry → Bool
+is_restorable stored s seen e = agrees e seen && can_have_all stored s.made seen.outs e.outs
 
--- the lock after a stage's turn in a tree, by the tree that comes next
-abbrev pub lock_next : Stage → Tree → Lock → Tree → Lock
-lock_next s t lock next = lock_after (choice_of s t lock) lock s.name (present_entry s next)
+abbrev pub if_restorable : Stored → Stage → Seen → Option Entry → Option Entry
+if_restorable stored s seen None = None
+if_restorable stored s seen (Some e) = if is_restorable stored s seen e then Some e else None
 
-abbrev pub due : Effect → List Stage → Tree → Lock → List (Stage × Choice)
-due effect [] t lock = []
-due effect (s ∷ ss) t lock =
-    if is_some (dep_fault s.name t (dep_paths s)) then []
-    else (s, choice_of s t lock)
-    ∷ following (λ next. due effect ss next (lock_next s t lock next)) [] (tree_next effect s t)
+abbrev pub first_record : List Entry → Option Entry
+first_record [] = None
+first_record (e ∷ es) = Some e
 
--- the refusal of one turn: a run can fail as well
-abbrev pub turn_fault : Effect → Stage → Choice → Tree → Option Fault
-turn_fault effect s Skip t = dep_fault s.name t (dep_paths s)
-turn_fault effect s Run t =
-    first_fault (dep_fault s.name t (dep_paths s)) (outcome_fault s (effect (invocation_of (job_of s) t)))
+-- the lock's entry, and else the first record of a run
+abbrev pub entry_to_restore : Stored → Stage → Seen → Lock → Option Entry
+entry_to_restore stored s seen lock =
+    option_or (if_restorable stored s seen (entry_of lock s.name)) (if_restorable stored s seen (first_record (stored.runs seen)))
 
-abbrev pub fault_of : Effect → List Stage → Tree → Lock → Option Fault
-fault_of effect [] t lock = None
-fault_of effect (s ∷ ss) t lock =
-    first_fault (turn_fault effect s (choice_of s t lock) t) (following (λ next. fault_of effect ss next (lock_next s t lock next)) None (tree_next effect s t))
+-- ---- the choice
+
+abbrev pub restore_or_run : Option Entry → Choice × Option Entry
+restore_or_run None = (Run, None)
+restore_or_run (Some e) = (Restore, Some e)
+
+abbrev pub choice_of : Flags → Stage → Seen → Stored → Lock → Choice × Option Entry
+choice_of flags s seen stored lock =
+    if flags.force || s.always then (Run, None)
+    else if is_same_as (entry_of lock s.name) seen then (Skip, None)
+    else if flags.run_cache then restore_or_run (entry_to_restore stored s seen lock)
+    else (Run, None)

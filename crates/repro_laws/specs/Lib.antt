@@ -1,11 +1,14 @@
+pub mod Params
 pub mod Stage
-pub mod Order
 pub mod Anew
-pub mod Due
 pub mod Book
 pub mod Entries
 pub mod Lock
+pub mod Stored
 pub mod Choices
+pub mod Limits
+pub mod Refusals
+pub mod Due
 pub mod Turns
 pub mod Headline
 pub mod Moments

@@ -1,43 +1,99 @@
--- A stage's job, the paths that it names, and what must be so of a stage whose turn comes.
---     job_of s         what the stage asks to be run; its paths are in the order of their bytes
---     dep_paths, stage_outs      the paths of its dependencies and outputs
---     is_above a b     a dependency of b overlaps an output of a
-use Rattle.std.specs.Prelude.{◌≡◌, ℕ, Bool, false, List, [], ◌∷◌, map, IsTrue, if◌then◌else◌}
-use Rattle.std.specs.List.{list_any}
-use Rattle.std.specs.Ordering.{nat_cmp, is_lt}
-use Rattle.std.specs.Cmp.Lexicographic.{slice_cmp}
-use Rattle.dvc_base.specs.Path.{Path, overlap}
-use Rattle.world_api.specs.Effect.{path_from, is_in_any}
-use Rattle.world_api.specs.Calls.{is_runnable}
+-- A stage as its turn sees it: the paths that it names, the values that it reads, and its job.
+--     read_paths s, stage_outs s     what it reads and what it makes
+--     dep_value t d                  the value of a dependency
+--     params_at s t                  the parameters that it tracks, as their files say them
+--     job_with s ps                  its job, with these parameters
+--     IsStage s                      its lists agree with one another, and its outputs are apart
+use Rattle.std.specs.Prelude.{◌≡◌, ◌<◌, ℕ, Bool, true, false, ◌&&◌, List, [], ◌++◌, length, ◌==◌, map, Result, Ok, IsTrue, if◌then◌else◌}
+use Rattle.std.specs.List.{AllByRecursion}
+use Rattle.std.specs.FinMap.{entries}
+use Rattle.dvc_base.specs.Path.{Path}
+use Rattle.dvc_base.specs.Join.{join}
+use Rattle.dvc_base.specs.declared.fault.Fault.{Fault}
+use Rattle.dvc_base.specs.declared.data.ParamFile.{ParamFile}
+use Rattle.world_api.specs.Tree.{Tree, Value, nothing, members, value_at}
+use Rattle.world_api.specs.Calls.{are_apart}
 use Rattle.world_api.specs.declared.job.Job.{Job}
+use Rattle.lock_files.specs.Order.{in_order, is_rising}
+use Rattle.change_check.specs.Same.{canonical_files}
+use Rattle.repro_laws.specs.Params.{tracked_at}
+use Rattle.repro_laws.specs.declared.stage.Dep.{Dep}
+use Rattle.repro_laws.specs.declared.stage.Out.{Out}
+use Rattle.repro_laws.specs.declared.stage.Tracked.{Tracked}
 use Rattle.repro_laws.specs.declared.stage.Stage.{Stage}
 
--- a text put before the first that isn't less
-abbrev pub put_text : List ℕ → List (List ℕ) → List (List ℕ)
-put_text a [] = a ∷ []
-put_text a (b ∷ bs) = if is_lt (slice_cmp nat_cmp b a) then b ∷ put_text a bs else a ∷ b ∷ bs
+-- ---- paths
 
--- texts in the order of their bytes
-abbrev pub in_order : List (List ℕ) → List (List ℕ)
-in_order [] = []
-in_order (a ∷ as') = put_text a (in_order as')
+abbrev pub dep_path : Dep → Path
+dep_path d = d.path
 
-abbrev pub job_of : Stage → Job
-job_of s = record { stage = s.name; commands = s.commands; dir = s.dir; deps = in_order s.deps; outs = in_order s.outs }
+abbrev pub out_path : Out → Path
+out_path o = o.path
 
-abbrev pub dep_paths : Stage → List Path
-dep_paths s = map (path_from s.dir) s.deps
+abbrev pub tracked_path : Tracked → Path
+tracked_path w = w.path
 
+-- what it reads: its dependencies, and its files of parameters
+abbrev pub read_paths : Stage → List Path
+read_paths s = map dep_path s.deps ++ map tracked_path s.params
+
+-- what it makes, in the order of the texts
 abbrev pub stage_outs : Stage → List Path
-stage_outs s = map (path_from s.dir) s.outs
+stage_outs s = map out_path s.made
 
-abbrev pub is_above : Stage → Stage → Bool
-is_above a b = list_any (λ dep. list_any (overlap dep) (stage_outs a)) (dep_paths b)
+-- ---- values
 
--- a stage that can have its turn: its texts are paths, those of its outputs in order; its outputs are apart and leave
--- its folder out, and it isn't above itself
-pub record IsReady (s : Stage) : Type 0 where
-  pub runnable : IsTrue (is_runnable (job_of s))
-  pub outs : in_order s.outs ≡ s.outs
-  pub apart : is_above s s ≡ false
-  pub dir : is_in_any (stage_outs s) s.dir ≡ false
+abbrev pub has_no_files : Value → Bool
+has_no_files (members m) = length (entries m) == 0
+has_no_files _ = false
+
+-- a folder without files that lies inside an output may be there or not: an output doesn't tell
+abbrev pub value_inside : Bool → Value → Value
+value_inside inside v = if inside && has_no_files v then nothing else v
+
+abbrev pub dep_value : Tree → Dep → Value
+dep_value t d = value_inside d.inside (value_at t d.path)
+
+abbrev pub is_nothing : Value → Bool
+is_nothing nothing = true
+is_nothing _ = false
+
+-- ---- parameters and the job
+
+abbrev pub params_at : Stage → Tree → Result (List ParamFile) Fault
+params_at s t = tracked_at t s.params
+
+abbrev pub dep_text : Dep → List ℕ
+dep_text d = d.text
+
+abbrev pub out_text : Out → List ℕ
+out_text o = o.text
+
+-- parameters count by value
+abbrev pub job_with : Stage → List ParamFile → Job
+job_with s ps = record {
+  stage = s.name;
+  commands = s.commands;
+  dir = s.dir;
+  deps = map dep_text s.deps;
+  params = canonical_files ps;
+  outs = map out_text s.made;
+}
+
+-- ---- stages that can have a turn
+
+-- a text names the path from a folder
+abbrev pub Names : Path → List ℕ → Path → Type 0
+Names dir text p = join dir text ≡ Ok p
+
+pub record IsStage (s : Stage) : Type 0 where
+  pub commands : 0 < length s.commands
+  pub deps : s.deps ≡ in_order dep_text s.looks
+  pub made : s.made ≡ in_order out_text s.outs
+  pub dep_texts : IsTrue (is_rising (map dep_text s.deps))
+  pub out_texts : IsTrue (is_rising (map out_text s.made))
+  pub dep_names : AllByRecursion (λ d. Names s.dir d.text d.path) s.deps
+  pub out_names : AllByRecursion (λ o. Names s.dir o.text o.path) s.made
+  pub apart : are_apart (stage_outs s) ≡ true
+  -- no parameter is tracked yet
+  pub no_params : s.params ≡ []

@@ -9,7 +9,7 @@ pub fn headline_law()
     ensures front { Front }
 {}
 
-/// A stage is skipped exactly where its entry in the lock is its present one.
+/// A stage is skipped exactly where nothing is forced, it doesn't always count as changed, and its entry in the lock is its present one.
 pub fn choice_law()
     ensures { SkipIsExact }
 {}

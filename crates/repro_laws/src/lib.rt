@@ -2,9 +2,7 @@
 #![tactic(auto)]
 
 mod law;
-mod order;
 mod stage;
 
 pub use law::{choice_law, headline_law, sound_law, stop_law};
-pub use order::in_order;
-pub use stage::{Choice, Stage, Stages};
+pub use stage::{Choice, Dep, Flags, Out, Stage, Stages, Tracked};

@@ -1,5 +1,5 @@
-use Rattle.repro_laws.proofs.SoundLaw.{sound}
+use Rattle.repro_laws.proofs.AllLaws.{sounds}
 use Rattle.repro_laws.proofs.law.sound_law.Goals as goal
 
 pub returns : goal.returns
-returns c = sound
+returns c = sounds
