@@ -1,9 +1,26 @@
-pub mod ApartLemmas
-pub mod FormLemmas
-pub mod KindLemmas
-pub mod LinesLemmas
-pub mod NamesLemmas
+mod EntryLemmas
+mod LinesLemmas
+mod LookLemmas
+mod OwnLemmas
+mod SeeLemmas
+pub mod ExitLemmas
+pub mod FirstLemmas
+pub mod GainLemmas
+pub mod OptionLemmas
+pub mod ReproLemmas
+pub mod SoFarLemmas
+pub mod ToldLemmas
+pub mod LeftLemmas
 pub mod OneStageLemmas
 pub mod RunLemmas
-pub mod TellLemmas
-pub mod TurnLemmas
+pub mod TurnedLemmas
+pub mod FoldersLemmas
+mod JoinLemmas
+pub mod OutcomeLemmas
+pub mod RoadsLemmas
+pub mod WorkLemmas
+pub mod StoredLemmas
+pub mod BarredLemmas
+pub mod StoreLemmas
+pub mod LimitedLemmas
+pub mod RecordLemmas

@@ -1,365 +1,498 @@
--- The run of a stage up to its lock: what it has made, and what each of its moments is.
---     can_write                        the run leaves the place of the lock as it was
---     moments_of_anew, moments_of_record     each moment is one of a turn
---     entry_of_run, runs_of_record     what the run has read and made stands once the lock is written
---     halted_early, left_of_record    the lock after a run that didn't end well
-use Rattle.std.proofs.Common.{◌≡◌, ◌≢◌, ◌⊎◌, ℕ, true, false, List, [], ◌∷◌, ◌++◌, map, refl, sym, ap, subst, ◌∙◌, inl, inr, Option, Some, None, IfSome, Result, Ok, Err, IfErr, OnOk}
+-- The run of a stage up to its lock, as a turn.
+--     IsStart                   what a turn of a choice begins with
+--     IsDone                    a run whose outputs have been put into the cache, with its entry
+--     turned_unmade             a turn whose run was refused, or came to no end
+--     turned_unstored, turned_stopped     a turn that ended while its outputs were put, or right after that
+--     turned_recorded           a turn that came to the write of its lock
+--     place_stored, place_recorded        the lock can be written, before and after
+--     due_none                  Ok is answered only where nothing is due
+use Rattle.std.proofs.Common.{◌≡◌, ◌⊎◌, ℕ, Bool, true, false, ◌||◌, List, [], ◌∷◌, ◌++◌, map, inl, inr, refl, sym, ap, subst, ◌∙◌, append-nil, Option, Some, None, is_some, IsTrue, Result, Ok, Err, OnOk}
 use Rattle.std.specs.List.{AllByRecursion, flat_map}
-use Rattle.std.proofs.lemmas.Bool.{false≢true, false_from_ne_true, both_ways, or_parts, or_from}
-use Rattle.std.proofs.lemmas.List.{append-nil}
+use Rattle.std.proofs.lemmas.Bool.{false≢true, cases_Bool, or_parts, or_from, and_parts, and_from}
 use Rattle.dvc_base.specs.Path.{Path, under}
-use Rattle.dvc_base.specs.declared.fault.Fault.{Fault}
-use Rattle.dvc_base.specs.declared.fault.Fault.TheVariants.{NoMemory, WorldFault}
-use Rattle.dvc_base.proofs.PathLemmas.{under-refl, under-trans}
-use Rattle.world_api.specs.Tree.{Tree, Item, Value, folder, file, IsTree, item_at, value_at}
-use Rattle.world_api.specs.Effect.{Effect, Outcome, gives, path_from, invocation_of, is_in_any}
-use Rattle.world_api.specs.History.{Fixed, Moment, History, Passes}
-use Rattle.world_api.specs.Calls.{IsFileAt, HasFolders, parent}
-use Rattle.world_api.specs.Writes.{is_at, IsSameUnder, IsMade, IsNoFileAt, in_scratch, InScratch, CanWrite}
-use Rattle.world_api.specs.Layout.{dvc_path, tmp_path, lock_path}
-use Rattle.world_api.specs.declared.job.Job.{Job}
-use Rattle.world_api.proofs.HistoryLemmas.{keeps_paths_then, keeps_paths_in, passes_weaker, passes_on}
-use Rattle.world_api.proofs.LaneLemmas.{apart_scratch}
-use Rattle.world_api.proofs.ValueLemmas.{value_same}
-use Rattle.world_api.proofs.WriteLemmas.{same_under_then, made_then_made, scratch_folder, scratch_same}
-use Rattle.world_api.proofs.TreeLemmas.{under_parent}
+use Rattle.dvc_base.specs.Name.{ObjectName}
 use Rattle.dvc_base.specs.declared.data.ParamFile.{ParamFile}
-use Rattle.lock_files.specs.declared.entry.Entry.{Entry}
-use Rattle.lock_files.specs.Book.{Lock, set}
-use Rattle.lock_files.specs.Form.{IsEntry}
-use Rattle.repro_laws.specs.Stage.{job_of, dep_paths, stage_outs, in_order, IsReady}
-use Rattle.repro_laws.specs.Due.{dep_fault, refused_dep}
-use Rattle.repro_laws.specs.Entries.{named_paths, IsPresent}
-use Rattle.repro_laws.specs.Turns.{standing, Runs}
-use Rattle.repro_laws.specs.Headline.{IsKept}
-use Rattle.repro_laws.specs.declared.stage.Choice.TheVariants.{Run}
-use Rattle.repro_laws.specs.Moments.{is_record, in_turns, HaveRun, IsNewLock, IsEntryOf, IsRecorded, InTurns, IsNext, IsLeftLock}
-use Rattle.repro_core.specs.Steps.{in_anew, InAnew, InRecord, record_kinds}
+use Rattle.dvc_base.specs.declared.fault.Fault.{Fault}
+use Rattle.dvc_base.specs.declared.fault.Fault.TheVariants.{NoMemory, WorldFault, NotFolder}
+use Rattle.dvc_base.specs.Fault.{is_free, MayBe}
 use Rattle.dvc_base.specs.Answer.{fault_in, IsAnswer}
-use Rattle.dvc_base.specs.Fault.{MayBe}
+use Rattle.dvc_base.proofs.PathLemmas.{under-refl}
+use Rattle.world_api.specs.Tree.{Tree, Value, folder, file, IsTree, item_at, value_at}
+use Rattle.world_api.specs.Effect.{Effect, gives, invocation_of, is_in_any}
+use Rattle.world_api.specs.History.{Fixed, Moment, History, Passes}
+use Rattle.world_api.specs.Outside.{tree_of, jobs_of, PassesFrom}
+use Rattle.world_api.specs.Calls.{parent}
+use Rattle.world_api.specs.Writes.{is_at, in_scratch, IsMade, IsSameUnder, IsNoFileAt, CanWrite}
+use Rattle.world_api.specs.Layout.{dvc_path, lock_path}
+use Rattle.world_api.specs.declared.job.Job.{Job}
+use Rattle.world_api.proofs.HistoryLemmas.{keeps_paths_in, keeps_paths_then, passes_weaker, passes_on}
+use Rattle.world_api.proofs.WriteLemmas.{same_at, same_under, same_under_then, made_then_same, made_then_made}
+use Rattle.world_api.proofs.LaneLemmas.{at_same}
+use Rattle.object_cache.specs.Objects.{object_path, object_at, whole_in, are_whole, object_names, is_stored}
+use Rattle.file_hash.specs.Naming.{named_of}
+use Rattle.object_cache.specs.Store.{is_cache_folder}
+use Rattle.lock_files.specs.declared.entry.Entry.{Entry}
+use Rattle.lock_files.specs.declared.entry.PathEntry.{PathEntry}
+use Rattle.lock_files.specs.Book.{Lock, set}
+use Rattle.change_check.specs.declared.seen.SeenPath.{SeenPath}
+use Rattle.repro_laws.specs.Stage.{out_path, stage_outs, job_with, value_inside, IsStage}
+use Rattle.repro_laws.specs.Entries.{seen_dep, seen_out, all_named, entry_at}
+use Rattle.repro_laws.specs.Limits.{limit_fault}
+use Rattle.repro_laws.specs.Refusals.{first_fault, first_of, see_fault, large_fault, outcome_fault, run_fault}
+use Rattle.repro_laws.specs.Due.{Due, standing_of, choice_at, due, turn_fault, jobs}
+use Rattle.repro_laws.specs.Turns.{state, OthersStay, Runs, AreStored, Turn}
+use Rattle.repro_laws.specs.Headline.{is_ordered, IsKept, is_any_way}
+use Rattle.repro_laws.specs.Moments.{is_own, in_turns, in_places, IsNewLock, IsRunOf, IsRecorded, InTurns}
+use Rattle.repro_laws.specs.Sound.{lock_of, IsAnswerAt}
+use Rattle.repro_laws.specs.declared.stage.Dep.{Dep}
+use Rattle.repro_laws.specs.declared.stage.Out.{Out}
 use Rattle.repro_laws.specs.declared.stage.Stage.{Stage}
-use Rattle.repro_laws.proofs.OrderLemmas.{all_in_order}
-use Rattle.repro_laws.proofs.AnewLemmas.{each_both, each_from, files_of_deps, deps_outside, outs_apart, roots_apart, job_outs}
-use Rattle.repro_laws.proofs.StepLaw.{same_given}
-use Rattle.repro_laws.proofs.EntryLaw.{present_all}
-use Rattle.repro_core.proofs.FormLemmas.{sized_paths}
-use Rattle.repro_core.proofs.NamesLemmas.{same_names}
-use Rattle.repro_core.proofs.ApartLemmas.{lock_no_root, lock_outside}
-use Rattle.repro_laws.proofs.RecordLemmas.{lock_no_scratch}
-use Rattle.repro_laws.proofs.OptionLemmas.{grows_then, if_some, if_some_at}
-use Rattle.repro_core.proofs.TurnLemmas.{none_ran}
-use Rattle.repro_core.proofs.KindLemmas.{record_free}
+use Rattle.repro_laws.specs.declared.stage.Flags.{Flags}
+use Rattle.repro_laws.specs.declared.stage.Choice.{Choice}
+use Rattle.repro_laws.specs.declared.stage.Choice.TheVariants.{Run}
+use Rattle.repro_laws.proofs.AlikeLemmas.{each_on, each_two, each_mapped, map_same}
+use Rattle.repro_laws.proofs.LoneLemmas.{no_params_read}
+use Rattle.repro_laws.proofs.LockEntries.{lock_of_same, lock_of_new}
+use Rattle.repro_laws.proofs.MomentLemmas.{kept_place_then}
+use Rattle.repro_laws.proofs.NamedLemmas.{entry_made}
+use Rattle.repro_laws.proofs.ReadLemmas.{same_given}
+use Rattle.repro_laws.proofs.RefusalLemmas.{large_at}
+use Rattle.repro_laws.proofs.TurnLaw.{deps_kept, turn_entry}
+use Rattle.repro_core.specs.Steps.{record_kinds, InWork, InWorks, InStored, is_record, InRecord, HasMade, RunsJob}
+use Rattle.repro_core.specs.Turning.{Halts, Turned, JobsGain}
+use Rattle.repro_core.proofs.GainLemmas.{gains_all}
+use Rattle.repro_core.proofs.LeftLemmas.{OnlyOwn, item_stored, item_recorded, item_then, left_worked, left_then, each_value, is_free_folder, is_free_place}
+use Rattle.repro_core.proofs.OneStageLemmas.{fault_alone, jobs_alone}
+use Rattle.repro_core.proofs.WorkLemmas.{work_keeps_lock, work_place, work_of_stored, turns_of_works, passes_works}
 
--- the run of a stage leaves the lock as it was
-same_lock : (s : Stage) (m n : Moment) → IsReady s → IsKept is_record s → InAnew s m n → IsSameUnder lock_path m n
-same_lock s m n ready kept h =
-    let roots = roots_apart (stage_outs s) (outs_apart s ready) in
-    let out : (p : Path) → under lock_path p ≡ true → in_anew s p ≡ false =
-    λ p u. or_from (is_in_any (stage_outs s) p) (in_scratch p) (lock_outside (stage_outs s) p roots kept.outs u) (apart_scratch lock_path p lock_no_root lock_no_scratch u) in
-    record { items = λ p u. h.others.items p (out p u); loose = λ p u. h.others.loose p (out p u) }
+-- ---- the start
+
+pub record IsStart (flags : Flags) (s : Stage) (choice : Choice) (lock : Lock) (m : Moment) : Type 0 where
+  pub stage : IsStage s
+  pub kept : IsKept is_own s
+  pub ordered : is_ordered (s ∷ []) ≡ true
+  pub read : lock_of m.tree ≡ Some lock
+  pub place : CanWrite lock_path m.tree
+  pub chosen : choice_at flags s [] (standing_of m.tree lock) ≡ (choice, None)
+  pub seen : see_fault s m.tree ≡ None
+  pub stands : IsTree m.tree
+
+none_some : {A : Type 0} (a : A) → Some a ≡ None → ⊥
+none_some a e = cc
+
+-- ---- a run that was refused
+
+module _ (flags : Flags) (effect : Effect) (s : Stage) (lock : Lock) (f : Fault) (old now : History) (start : IsStart flags s Run lock old.present) where
+  abbrev whole_jobs : List Job
+  whole_jobs = jobs (due flags effect (s ∷ []) (standing_of (tree_of old) lock))
+
+  due_jobs : whole_jobs ≡ job_with s [] ∷ []
+  due_jobs = jobs_alone flags effect s (tree_of old) lock Run None start.stage start.chosen start.seen
+
+  due_fault : turn_fault flags effect s (standing_of (tree_of old) lock) ≡ run_fault effect s [] (tree_of old)
+  due_fault = fault_alone flags effect s (tree_of old) lock Run None start.stage start.chosen start.seen
+
+  pub turned_early : IsAnswerAt (tree_of now) (Some f) (run_fault effect s [] (tree_of old)) → JobsGain (tree_of now) (Some f) (jobs_of old) (job_with s [] ∷ []) (jobs_of now) → PassesFrom (InWorks s) old now → Turned flags effect s Run lock lock (Some f) old now
+  turned_early answer ran moments =
+      let work = moments.now in
+      record {
+        answer = subst (λ (o : Option Fault). IsAnswerAt (tree_of now) (Some f) o) (sym due_fault) answer;
+        turn = λ e. absurd (none_some f e);
+        halted = inl (lock_of_same old.present now.present (work_keeps_lock s work.jobs old.present now.present start.kept work.work) ∙ start.read);
+        ran = subst (λ (l : List Job). JobsGain (tree_of now) (Some f) (jobs_of old) l (jobs_of now)) (sym due_jobs) ran;
+        moments = passes_weaker (InWorks s old.present) (InTurns flags effect (s ∷ []) lock old.present now.present) old now (λ n h. turns_of_works flags effect s lock old.present now.present n start.kept h) moments;
+      }
+
+-- ---- what a run has read and made
+
+seen_with : List ℕ → Value → SeenPath
+seen_with text v = record { path = text; named = named_of v }
+
+same_seen_outs : (t u : Tree) (os : List Out) → AllByRecursion (λ o. value_at u o.path ≡ value_at t o.path) os → map (seen_out u) os ≡ map (seen_out t) os
+unfolding seen_with
+same_seen_outs t u os all =
+    map_same (seen_out t) (seen_out u) os (each_on (λ o. value_at u o.path ≡ value_at t o.path) (λ o. seen_out u o ≡ seen_out t o) os (λ o h. ap (seen_with o.text) h) all)
+
+same_seen_deps : (t u : Tree) (ds : List Dep) → AllByRecursion (λ d. value_at u d.path ≡ value_at t d.path) ds → map (seen_dep u) ds ≡ map (seen_dep t) ds
+unfolding seen_with
+same_seen_deps t u ds all =
+    map_same (seen_dep t) (seen_dep u) ds (each_on (λ d. value_at u d.path ≡ value_at t d.path) (λ d. seen_dep u d ≡ seen_dep t d) ds (λ d h. ap (λ v. seen_with d.text (value_inside d.inside v)) h) all)
+
+entry_fields : (a b : List (List ℕ)) (ds os : List PathEntry) (ps qs : List ParamFile) → a ≡ b → ps ≡ qs → ◌≡◌ {A = Entry} (record { commands = a; deps = ds; params = ps; outs = os }) (record { commands = b; deps = ds; params = qs; outs = os })
+entry_fields a b ds os ps qs x y =
+    ap (λ (v : List (List ℕ)). record { commands = v; deps = ds; params = ps; outs = os }) x ∙ ap (λ (v : List ParamFile). record { commands = b; deps = ds; params = v; outs = os }) y
+
+-- what a run has made at b is whole in the cache at c, and its entry tells of it
+pub record IsDone (effect : Effect) (s : Stage) (e : Entry) (a b c : Moment) : Type 0 where
+  pub work : InWorks s a b
+  pub made : HasMade effect s a b
+  pub ran : b.aside.fixed.ran ≡ a.aside.fixed.ran ++ job_with s [] ∷ []
+  pub small : first_of (λ o. limit_fault (value_at b.tree o.path)) s.outs ≡ None
+  pub put : InStored b c
+  pub stored : AreStored c.tree s.made
+  pub commands : e.commands ≡ s.commands
+  pub deps : all_named (map (seen_dep a.tree) s.deps) ≡ Some e.deps
+  pub params : e.params ≡ []
+  pub outs : all_named (map (seen_out b.tree) s.made) ≡ Some e.outs
+
+outs_mapped : (t : Tree) (os : List Out) → map (value_at t) (map out_path os) ≡ map (λ o. value_at t o.path) os
+outs_mapped t [] = refl
+outs_mapped t (o ∷ os) = ap (λ vs. value_at t o.path ∷ vs) (outs_mapped t os)
+
+fault_made : (effect : Effect) (s : Stage) (a b : Moment) → IsStage s → HasMade effect s a b → run_fault effect s [] a.tree ≡ first_of (λ o. limit_fault (value_at b.tree o.path)) s.outs
+fault_made effect s a b stage made =
+    let vs : List Value = map (value_at b.tree) (stage_outs s) in
+    ap (λ o. first_fault o (outcome_fault s (effect (invocation_of (job_with s []) a.tree)))) made.way
+    ∙ ap (outcome_fault s) made.gave
+    ∙ ap (λ o. first_fault o (large_fault s vs)) made.there
+    ∙ large_at (λ o. value_at b.tree o.path) s vs stage.made stage.out_texts (outs_mapped b.tree s.made)
+
+fault_free : (effect : Effect) (s : Stage) (a b : Moment) → IsStage s → HasMade effect s a b → first_of (λ o. limit_fault (value_at b.tree o.path)) s.outs ≡ None → run_fault effect s [] a.tree ≡ None
+fault_free effect s a b stage made small = fault_made effect s a b stage made ∙ small
+
+-- ---- the write of the lock
+
+abbrev turn_area : Stage → Path → Bool
+turn_area s p = in_turns (s ∷ []) p || is_any_way (s ∷ []) p
+
+turns_no_record : (s : Stage) (p : Path) → in_turns (s ∷ []) p ≡ false → is_record p ≡ false
+turns_no_record s p out =
+    let first = or_parts (is_in_any (flat_map stage_outs (s ∷ [])) p) (in_scratch p || (is_cache_folder p || (in_places p || under lock_path p))) out in
+    let second = or_parts (in_scratch p) (is_cache_folder p || (in_places p || under lock_path p)) first.1 in
+    let third = or_parts (is_cache_folder p) (in_places p || under lock_path p) second.1 in
+    or_from (under lock_path p) (in_scratch p) (or_parts (in_places p) (under lock_path p) third.1).1 second.0
+
+whole_no_record : (s : Stage) (p : Path) → turn_area s p ≡ false → is_record p ≡ false
+whole_no_record s p out = turns_no_record s p (or_parts (in_turns (s ∷ []) p) (is_any_way (s ∷ []) p) out).0
+
+record_folder : (written : Lock) (m n : Moment) (p : Path) → is_cache_folder p ≡ true → InRecord written m n → IsMade p m n
+record_folder written m n p in' h =
+    elim (cases_Bool (is_at dvc_path p)) [
+      | inl e ↦ subst (λ (x : Path). IsMade x m n) (at_same dvc_path p e) h.dvc
+      | inr e ↦ inl (same_at p is_record m n h.others (is_free_folder p e in'))
+    ]
+
+record_place : (written : Lock) (m n : Moment) (name : ObjectName) → InRecord written m n → IsSameUnder (object_path name) m n
+record_place written m n name h = same_under (object_path name) is_record m n h.others (λ p u. is_free_place name p u)
+
+record_object : (written : Lock) (m n : Moment) (name : ObjectName) → InRecord written m n → object_at n.tree name ≡ object_at m.tree name
+record_object written m n name h =
+    let same = record_place written m n name h in
+    ap (whole_in name) (same.items (object_path name) (under-refl (object_path name)))
+
+-- a moment of the write, after moments of the turn in which the lock was as before
+pub turns_recorded : (flags : Flags) (effect : Effect) (s : Stage) (lock written : Lock) (a k end n : Moment) → InTurns flags effect (s ∷ []) lock a end k → InRecord written k n → (IsSameUnder lock_path a n ⊎ IsRecorded flags effect (s ∷ []) lock a end n) → InTurns flags effect (s ∷ []) lock a end n
+turns_recorded flags effect s lock written a k end n so h remembered =
+    let others = h.others in
+    let ran = so.ran in
+    record {
+      paths = keeps_paths_then (turn_area s) a k n so.paths (keeps_paths_in is_record (turn_area s) k n (whole_no_record s) others.paths);
+      ways = λ p out. made_then_same p a k n (so.ways p out) (same_at p is_record k n others (turns_no_record s p out));
+      dvc = made_then_made dvc_path a k n so.dvc h.dvc;
+      folders = λ p in'. made_then_made p a k n (so.folders p in') (record_folder written k n p in' h);
+      places = λ name. kept_place_then (object_path name) a k n (so.places name) (inl (record_place written k n name h));
+      objects = λ name bytes e. record_object written k n name h ∙ so.objects name bytes e;
+      ran = record {
+        jobs = ran.jobs;
+        some = ran.some;
+        aside = record {
+          fixed = others.aside.fixed ∙ ran.aside.fixed;
+          book = λ d bytes e. others.aside.book d bytes (ran.aside.book d bytes e);
+        };
+      };
+      remembered = remembered;
+    }
+
+-- ---- the turn
+
+whole_more : (t u : Tree) (v : Value) → ((name : ObjectName) → object_at u name ≡ object_at t name) → is_stored t v ≡ true → is_stored u v ≡ true
+whole_more t u v same h = names_more (object_names v) h
+  where
+    names_more : (names : List ObjectName) → are_whole t names ≡ true → are_whole u names ≡ true
+    names_more [] h = refl
+    names_more (name ∷ names) h =
+        let parts = and_parts (is_some (object_at t name)) (are_whole t names) h in
+        and_from (is_some (object_at u name)) (are_whole u names) (ap is_some (same name) ∙ parts.0) (names_more names parts.1)
+
+-- the cached outputs are in the cache at each moment of the write
+held : (s : Stage) (written : Lock) (c n : Moment) → IsKept is_own s → AreStored c.tree s.made → InRecord written c n → AreStored n.tree s.made
+held s written c n kept stored write =
+    let same = each_mapped out_path (λ p. value_at n.tree p ≡ value_at c.tree p) s.made (each_value c.tree n.tree (stage_outs s) (item_recorded s written c n write) kept.outs) in
+    each_two (λ o. value_at n.tree o.path ≡ value_at c.tree o.path) (λ o. o.cached ≡ true → is_stored c.tree (value_at c.tree o.path) ≡ true) (λ o. o.cached ≡ true → is_stored n.tree (value_at n.tree o.path) ≡ true) s.made
+    (λ o v h cached. ap (is_stored n.tree) v ∙ whole_more c.tree n.tree (value_at c.tree o.path) (λ name. record_object written c n name write) (h cached)) same stored
+
+module _ (flags : Flags) (effect : Effect) (s : Stage) (lock : Lock) (e : Entry) (a b c n : Moment) (start : IsStart flags s Run lock a) (done : IsDone effect s e a b c) (write : InRecord (set lock s.name e) c n) (stands : IsTree n.tree) where
+  abbrev written : Lock
+  written = set lock s.name e
+
+  abbrev turn_of : Due
+  turn_of = record { stage = s; choice = Run; job = job_with s [] }
+
+  only_own : OnlyOwn b.tree n.tree
+  only_own = item_then b.tree c.tree n.tree (item_stored s b c done.put) (item_recorded s written c n write)
+
+  others_stay : OthersStay is_own s a.tree n.tree
+  others_stay =
+      let works = done.work in
+      left_then s a.tree b.tree n.tree (left_worked s works.jobs a b works.work) only_own
+
+  outs_stay : AllByRecursion (λ o. value_at n.tree o.path ≡ value_at b.tree o.path) s.made
+  outs_stay =
+      let kept = start.kept in
+      each_mapped out_path (λ p. value_at n.tree p ≡ value_at b.tree p) s.made (each_value b.tree n.tree (stage_outs s) only_own kept.outs)
+
+  values_stay : map (value_at n.tree) (stage_outs s) ≡ map (value_at b.tree) (stage_outs s)
+  values_stay =
+      let kept = start.kept in
+      map_same (value_at b.tree) (value_at n.tree) (stage_outs s) (each_value b.tree n.tree (stage_outs s) only_own kept.outs)
+
+  deps_stay : AllByRecursion (λ d. value_at n.tree d.path ≡ value_at a.tree d.path) s.deps
+  deps_stay =
+      deps_kept is_own s (state a.tree lock) (state n.tree written) start.stage start.kept start.ordered start.stands stands start.seen others_stay
+
+  still_present : entry_at s [] n.tree ≡ Some e
+  still_present =
+      entry_made s [] n.tree e.deps e.outs (ap all_named (same_seen_deps a.tree n.tree s.deps deps_stay) ∙ done.deps) (ap all_named (same_seen_outs b.tree n.tree s.made outs_stay) ∙ done.outs)
+      ∙ ap (λ (x : Entry). Some x) (entry_fields s.commands e.commands e.deps e.outs [] e.params (sym done.commands) (sym done.params))
+
+  run_left : Runs is_own effect s [] (state a.tree lock) (state n.tree written)
+  run_left =
+      let made = done.made in
+      let kept = start.kept in
+      record {
+        entry = e;
+        fault = fault_free effect s a b start.stage made done.small;
+        dir = λ out. only_own s.dir kept.dir ∙ made.dir out;
+        values = made.gave ∙ ap gives (sym values_stay);
+        present = still_present;
+        lock = refl;
+        others = others_stay;
+      }
+
+  pub turn_here : Turn is_own flags effect turn_of (state a.tree lock) (state n.tree written)
+  turn_here =
+      let stage = start.stage in
+      let works = done.work in
+      let work = works.work in
+      let put = done.put in
+      record {
+        params = [];
+        from = None;
+        read = no_params_read s a.tree stage.no_params;
+        seen = start.seen;
+        chosen = start.chosen;
+        job = refl;
+        left = run_left;
+        stands = stands;
+        stored = λ other. held s written c n start.kept done.stored write;
+        kept = λ name bytes x. record_object written c n name write ∙ put.objects name bytes (work.objects name bytes x);
+      }
+
+  -- the job has run, and nothing has since
+  pub jobs_here : n.aside.fixed.ran ≡ a.aside.fixed.ran ++ job_with s [] ∷ []
+  jobs_here =
+      let put = done.put in
+      let stored = put.others in
+      let others = write.others in
+      ap (λ (f : Fixed). f.ran) others.aside.fixed ∙ ap (λ (f : Fixed). f.ran) stored.aside.fixed ∙ done.ran
+
+  pub run_here : IsRunOf effect written a n turn_of
+  run_here =
+      let stage = start.stage in
+      record {
+        ran = record {
+          before = [];
+          after = [];
+          ran = jobs_here ∙ ap (λ (l : List Job). l ++ job_with s [] ∷ []) (sym (append-nil a.aside.fixed.ran));
+        };
+        made = record {
+          params = [];
+          read = no_params_read s n.tree stage.no_params;
+          made = ap effect (same_given s [] a.tree n.tree stage deps_stay) ∙ run_left.values;
+        };
+        entry = turn_entry is_own flags effect turn_of (state a.tree lock) (state n.tree written) stage start.kept start.ordered start.stands turn_here;
+      }
+
+-- ---- the whole run
+
+runs_gain : (s : Stage) (got : Option Fault) (t : Tree) (m n : Moment) → RunsJob s got m n → JobsGain t got m.aside.fixed.ran (job_with s [] ∷ []) n.aside.fixed.ran
+runs_gain s None t m n h = inl (inl h)
+runs_gain s (Some (NotFolder path)) t m n h =
+    inr (tt, record { front = []; last = job_with s []; cut = refl; grown = h ∙ sym (append-nil m.aside.fixed.ran) })
+runs_gain s (Some _) t m n h = inl (inl h)
+
+-- the run was refused before its outputs were put
+pub turned_unmade : (flags : Flags) (effect : Effect) (s : Stage) (lock : Lock) (f : Fault) (old now : History) → IsStart flags s Run lock old.present → IsAnswer (Some f) (run_fault effect s [] (tree_of old)) → RunsJob s (Some f) old.present now.present → PassesFrom (InWorks s) old now → Turned flags effect s Run lock lock (Some f) old now
+turned_unmade flags effect s lock f old now start answer ran moments =
+    turned_early flags effect s lock f old now start (inl answer) (runs_gain s (Some f) (tree_of now) old.present now.present ran) moments
+
+-- while its outputs are put
+passes_stored : (s : Stage) (old mid now : History) → PassesFrom (InWorks s) old mid → PassesFrom InStored mid now → PassesFrom (InWorks s) old now
+passes_stored s old mid now before put =
+    passes_works s old mid now before (passes_weaker (InStored mid.present) (InWork s [] mid.present) mid now (λ n h. work_of_stored s mid.present n h) put)
+
+stored_ran : (old mid now : History) (js : List Job) → PassesFrom InStored mid now → jobs_of mid ≡ jobs_of old ++ js → jobs_of now ≡ jobs_of old ++ js
+stored_ran old mid now js put ran =
+    let here = put.now in
+    let others = here.others in
+    ap (λ (x : Fixed). x.ran) others.aside.fixed ∙ ran
+
+pub turned_unstored : (flags : Flags) (effect : Effect) (s : Stage) (lock : Lock) (f : Fault) (old mid now : History) → IsStart flags s Run lock old.present → HasMade effect s old.present mid.present → jobs_of mid ≡ jobs_of old ++ job_with s [] ∷ [] → IsAnswerAt (tree_of now) (Some f) (first_of (λ o. limit_fault (value_at (tree_of mid) o.path)) s.outs) → PassesFrom (InWorks s) old mid → PassesFrom InStored mid now → Turned flags effect s Run lock lock (Some f) old now
+turned_unstored flags effect s lock f old mid now start made ran answer before put =
+    turned_early flags effect s lock f old now start
+    (subst (λ (o : Option Fault). IsAnswerAt (tree_of now) (Some f) o) (sym (fault_made effect s old.present mid.present start.stage made)) answer)
+    (inl (inl (gains_all (Some f) (jobs_of old) (job_with s [] ∷ []) (jobs_of now) (stored_ran old mid now (job_with s [] ∷ []) put ran))))
+    (passes_stored s old mid now before put)
+
+pub turned_stopped : (flags : Flags) (effect : Effect) (s : Stage) (lock : Lock) (f : Fault) (old mid now : History) → IsStart flags s Run lock old.present → IsTrue (is_free f) → jobs_of mid ≡ jobs_of old ++ job_with s [] ∷ [] → PassesFrom (InWorks s) old mid → PassesFrom InStored mid now → Turned flags effect s Run lock lock (Some f) old now
+turned_stopped flags effect s lock f old mid now start free ran before put =
+    turned_early flags effect s lock f old now start (inl (inl free))
+    (inl (inl (gains_all (Some f) (jobs_of old) (job_with s [] ∷ []) (jobs_of now) (stored_ran old mid now (job_with s [] ∷ []) put ran))))
+    (passes_stored s old mid now before put)
+
+-- Ok is answered only where nothing is due
+pub due_none : (t : Tree) (due : Option Fault) → IsAnswerAt t None due → due ≡ None
+due_none t due (inl e) = e
+due_none t due (inr barred) = absurd barred
+
+-- ---- with the write of its lock
+
+folder_file : (bytes : List ℕ) → Some folder ≡ Some (file bytes) → ⊥
+folder_file bytes e = absurd (cc)
+
+no_file_then : (m n : Moment) → IsMade dvc_path m n → IsNoFileAt m.tree dvc_path → IsNoFileAt n.tree dvc_path
+no_file_then m n (inl same) none bytes e = none bytes (sym same.item ∙ e)
+no_file_then m n (inr made) none bytes e = folder_file bytes (sym made.1.stands ∙ e)
 
 root_above_lock : (t : Tree) → item_at t (parent lock_path) ≡ Some folder
 unfolding lock_path
 root_above_lock t = refl
 
-folder_no_file : (bytes : List ℕ) → Some folder ≡ Some (file bytes) → ⊥
-folder_no_file bytes e = cc
-
-no_file_then : (k n : Moment) → IsMade dvc_path k n → IsNoFileAt k.tree dvc_path → IsNoFileAt n.tree dvc_path
-no_file_then k n (inl same) none bytes e = none bytes (sym same.item ∙ e)
-no_file_then k n (inr made) none bytes e = folder_no_file bytes (sym made.1.stands ∙ e)
-
-pub can_write : (s : Stage) (m n : Moment) → IsReady s → IsKept is_record s → InAnew s m n → CanWrite lock_path m.tree → CanWrite lock_path n.tree
-can_write s m n ready kept anew before =
-    let lock = (same_lock s m n ready kept anew).items lock_path (under-refl lock_path) in
+-- the lock that was written can be written again
+pub place_recorded : {T : Type 0} (written : Lock) (m n : Moment) (r : Result T Fault) → CanWrite lock_path m.tree → InRecord written m n → OnOk r (IsNewLock written n) → OnOk r (CanWrite lock_path n.tree)
+place_recorded written m n (Err fault) place write new = tt
+place_recorded written m n (Ok done) place write new =
+    let lock = new.file in
     record {
-      room = record { above = root_above_lock n.tree; no_folder = λ e. before.room.no_folder (sym lock ∙ e) };
-      no_file = no_file_then m n anew.dvc before.no_file;
+      room = record { above = root_above_lock n.tree; no_folder = λ e. folder_file _ (sym e ∙ lock.stands) };
+      no_file = no_file_then m n write.dvc place.no_file;
     }
 
--- ---- moments until the lock is written
+pub place_stored : (flags : Flags) (s : Stage) (lock : Lock) (old mid now : History) → IsKept is_own s → CanWrite lock_path (tree_of old) → PassesFrom (InWorks s) old mid → PassesFrom InStored mid now → CanWrite lock_path (tree_of now)
+place_stored flags s lock old mid now kept place before put =
+    let whole = passes_stored s old mid now before put in
+    let here = whole.now in
+    work_place s here.jobs old.present now.present kept here.work place
 
-turn_area : (s : Stage) (p : Path) → in_turns (s ∷ []) p ≡ false → (is_in_any (stage_outs s) p ≡ false) × (is_record p ≡ false)
-turn_area s p out =
-    let parts = or_parts (is_in_any (flat_map stage_outs (s ∷ [])) p) (is_record p) out in (
-      subst (λ (outs : List Path). is_in_any outs p ≡ false) (append-nil (stage_outs s)) parts.0,
-      parts.1,
-    )
+module _ (flags : Flags) (effect : Effect) (s : Stage) (lock : Lock) (e : Entry) (old mid put now : History) (start : IsStart flags s Run lock old.present) (done : IsDone effect s e old.present mid.present put.present) (before : PassesFrom (InWorks s) old mid) (stored : PassesFrom InStored mid put) (write : PassesFrom (InRecord (set lock s.name e)) put now) (stands : IsTree (tree_of now)) where
+  abbrev lock_of_run : Lock
+  lock_of_run = set lock s.name e
 
--- what is none of the records is no lane
-no_scratch_at : (p : Path) → is_record p ≡ false → in_scratch p ≡ false
-no_scratch_at p own = (or_parts (under lock_path p) (in_scratch p) own).1
+  abbrev its_turn : Due
+  its_turn = record { stage = s; choice = Run; job = job_with s [] }
 
-anew_area : (s : Stage) (p : Path) → in_turns (s ∷ []) p ≡ false → in_anew s p ≡ false
-anew_area s p out =
-    let parts = turn_area s p out in
-    or_from (is_in_any (stage_outs s) p) (in_scratch p) parts.0 (no_scratch_at p parts.1)
+  works : PassesFrom (InWorks s) old put
+  works = passes_stored s old mid put before stored
 
-pub turns_of_anew : (effect : Effect) (s : Stage) (lock : Lock) (m end n : Moment) → IsReady s → IsKept is_record s → InAnew s m n → InTurns effect (s ∷ []) lock m end n
-turns_of_anew effect s lock m end n ready kept h =
-    record {
-      others = keeps_paths_in (in_anew s) (in_turns (s ∷ [])) m n (λ p out. anew_area s p out) h.others;
-      dvc = h.dvc;
-      same_effect = h.effect;
-      book = h.book;
-      ran = h.ran;
-      remembered = inl (same_lock s m n ready kept h);
-    }
+  the_turn : Turn is_own flags effect its_turn (state (tree_of old) lock) (state (tree_of now) lock_of_run)
+  the_turn = turn_here flags effect s lock e old.present mid.present put.present now.present start done write.now stands
 
-pub moments_of_anew : (s : Stage) (lock : Lock) (start now : History) → IsReady s → IsKept is_record s → Passes (InAnew s start.present) start now → IfSome start.present.aside.fixed.effect (λ effect. Passes (InTurns effect (s ∷ []) lock start.present now.present) start now)
-moments_of_anew s lock start now ready kept h =
-    if_some start.present.aside.fixed.effect (λ effect. Passes (InTurns effect (s ∷ []) lock start.present now.present) start now) (λ effect told. passes_weaker (InAnew s start.present) (InTurns effect (s ∷ []) lock start.present now.present) start now (λ n k. turns_of_anew effect s lock start.present now.present n ready kept k) h)
+  the_run : IsRunOf effect lock_of_run old.present now.present its_turn
+  the_run = run_here flags effect s lock e old.present mid.present put.present now.present start done write.now stands
 
-pub halted_early : (s : Stage) (lock : Lock) (m n : Moment) (r : Result (Unit {0}) Fault) → IsReady s → IsKept is_record s → InAnew s m n → IfErr r (λ fault. IfSome m.aside.fixed.effect (λ effect. IsLeftLock effect s lock fault m n))
-halted_early s lock m n (Ok done) ready kept h = tt
-halted_early s lock m n (Err fault) ready kept h =
-    if_some m.aside.fixed.effect (λ effect. IsLeftLock effect s lock fault m n) (λ effect told. inl (same_lock s m n ready kept h))
+  recorded_at : (n : Moment) → InRecord lock_of_run put.present n → IsNewLock lock_of_run n → IsRecorded flags effect (s ∷ []) lock old.present now.present n
+  recorded_at n h new =
+      record {
+        ended = its_turn ∷ [];
+        others = [];
+        cut = refl;
+        reached = state (tree_of now) lock_of_run;
+        turns = (state (tree_of now) lock_of_run, the_turn, refl);
+        runs = ((λ run. the_run), tt);
+        held = ((λ run. held s lock_of_run put.present n start.kept done.stored h), tt);
+        stands = new;
+      }
 
--- ---- what stays of a tree at paths
+  lock_at : (n : Moment) → InRecord lock_of_run put.present n → IsSameUnder lock_path old.present n ⊎ IsRecorded flags effect (s ∷ []) lock old.present now.present n
+  lock_at n h =
+      let here = works.now in
+      elim h.path [
+        | inl same ↦ inl (same_under_then lock_path old.present put.present n (work_keeps_lock s here.jobs old.present put.present start.kept here.work) same)
+        | inr new ↦ inr (recorded_at n h new)
+      ]
 
-each_then : (t u v : Tree) (ps : List Path) → AllByRecursion (λ p. item_at u p ≡ item_at t p) ps → AllByRecursion (λ p. item_at v p ≡ item_at u p) ps → AllByRecursion (λ p. item_at v p ≡ item_at t p) ps
-each_then t u v ps a b =
-    each_both (λ p. item_at u p ≡ item_at t p) (λ p. item_at v p ≡ item_at u p) (λ p. item_at v p ≡ item_at t p) ps (λ p x y. y ∙ x) a b
+  recorded_moments : Passes (InTurns flags effect (s ∷ []) lock old.present now.present) old now
+  recorded_moments =
+      let turns : Moment → Type 0 = InTurns flags effect (s ∷ []) lock old.present now.present in
+      let to_turns : (n : Moment) → InWorks s old.present n → turns n =
+      λ n h. turns_of_works flags effect s lock old.present now.present n start.kept h in
+      passes_on turns (InRecord lock_of_run put.present) old put now (passes_weaker (InWorks s old.present) turns old put to_turns works)
+      (λ n h. turns_recorded flags effect s lock lock_of_run old.present put.present now.present n (to_turns put.present works.now) h (lock_at n h)) write
 
-values_stay : (t u : Tree) (ps : List Path) → AllByRecursion (IsFileAt t) ps → AllByRecursion (λ p. item_at u p ≡ item_at t p) ps → AllByRecursion (λ p. value_at u p ≡ value_at t p) ps
-values_stay t u ps files same =
-    each_both (IsFileAt t) (λ p. item_at u p ≡ item_at t p) (λ p. value_at u p ≡ value_at t p) ps (λ p f e. value_same t u p f.0 f.1 e) files same
+  recorded_ran : jobs_of now ≡ jobs_of old ++ job_with s [] ∷ []
+  recorded_ran =
+      let here = write.now in
+      let others = here.others in
+      ap (λ (x : Fixed). x.ran) others.aside.fixed ∙ stored_ran old mid put (job_with s [] ∷ []) stored done.ran
 
-same_values : (t u : Tree) (ps : List Path) → AllByRecursion (λ p. value_at u p ≡ value_at t p) ps → map (value_at u) ps ≡ map (value_at t) ps
-same_values t u [] same = refl
-same_values t u (p ∷ ps) same =
-    ap (λ (v : Value). v ∷ map (value_at u) ps) same.0 ∙ ap (λ (vs : List Value). value_at t p ∷ vs) (same_values t u ps same.1)
+  recorded_gain : (got : Option Fault) → JobsGain (tree_of now) got (jobs_of old) (jobs (due flags effect (s ∷ []) (standing_of (tree_of old) lock))) (jobs_of now)
+  recorded_gain got =
+      inl (inl (gains_all got (jobs_of old) (jobs (due flags effect (s ∷ []) (standing_of (tree_of old) lock))) (jobs_of now) (recorded_ran ∙ ap (λ (l : List Job). jobs_of old ++ l) (sym (jobs_alone flags effect s (tree_of old) lock Run None start.stage start.chosen start.seen)))))
 
--- ---- what a run has made
+  -- the lock was written
+  whole_turn : IsNewLock lock_of_run now.present → Turned flags effect s Run lock lock_of_run None old now
+  whole_turn new =
+      let here = write.now in
+      record {
+        answer = inl (fault_alone flags effect s (tree_of old) lock Run None start.stage start.chosen start.seen ∙ the_fault);
+        turn = λ none. record {
+          due = its_turn;
+          its = refl;
+          chosen = refl;
+          turn = the_turn;
+          run = λ run. the_run;
+          remembered = lock_of_new lock_of_run now.present new;
+          place = place_recorded {T = Unit {0}} lock_of_run put.present now.present (Ok tt) (place_stored flags s lock old mid put start.kept start.place before stored) here new;
+        };
+        halted = tt;
+        ran = recorded_gain None;
+        moments = recorded_moments;
+      }
+    where
+      the_fault : run_fault effect s [] (tree_of old) ≡ None
+      the_fault = fault_free effect s old.present mid.present start.stage done.made done.small
 
--- a stage that may run: its paths are none of the tool's own, and its dependencies are files
-pub record MayRun (s : Stage) (t : Tree) : Type 0 where
-  pub ready : IsReady s
-  pub kept : IsKept is_record s
-  pub deps : dep_fault s.name t (dep_paths s) ≡ None
+  -- the call that publishes it has failed: it may have been written
+  late_turn : (new : Lock) → Turned flags effect s Run lock new (Some WorldFault) old now
+  late_turn new =
+      let here = write.now in
+      let so_far = works.now in
+      record {
+        answer = inl (inl refl);
+        turn = λ none. absurd (none_some WorldFault none);
+        halted = elim here.path [
+          | inl same ↦ inl (lock_of_same old.present now.present (same_under_then lock_path old.present put.present now.present (work_keeps_lock s so_far.jobs old.present put.present start.kept so_far.work) same) ∙ start.read)
+          | inr fresh ↦ inr (refl, record { turn = its_turn; its = refl; lock = lock_of_run; read = lock_of_new lock_of_run now.present fresh; taken = the_turn })
+        ];
+        ran = recorded_gain (Some WorldFault);
+        moments = recorded_moments;
+      }
 
--- a run that ended well, and the entry of the names of what it has read and made
-pub record HasMade (s : Stage) (e : Entry) (m k : Moment) : Type 0 where
-  pub anew : InAnew s m k
-  pub values : IfSome m.aside.fixed.effect (λ effect. effect (invocation_of (job_of s) m.tree) ≡ gives (map (value_at k.tree) (stage_outs s)))
-  pub files : AllByRecursion (IsFileAt k.tree) (stage_outs s)
-  pub ran : k.aside.fixed.ran ≡ m.aside.fixed.ran ++ job_of s ∷ []
-  pub commands : e.commands ≡ s.commands
-  pub deps : named_paths m.tree s.dir (in_order s.deps) ≡ Some e.deps
-  pub outs : named_paths k.tree s.dir (in_order s.outs) ≡ Some e.outs
-  pub params : e.params ≡ []
-  pub form : IsEntry e
+  -- want of memory came before anything was touched
+  stopped_turn : (new : Lock) → now ≡ put → Turned flags effect s Run lock new (Some NoMemory) old now
+  stopped_turn new same =
+      let early = turned_stopped flags effect s lock NoMemory old mid put start refl done.ran before stored in
+      record {
+        answer = inl (inl refl);
+        turn = λ none. absurd (none_some NoMemory none);
+        halted = subst (λ (h : History). Halts flags effect s lock NoMemory old.present h.present) (sym same) early.halted;
+        ran = recorded_gain (Some NoMemory);
+        moments = recorded_moments;
+      }
 
--- the write of the lock leaves the stage's paths alone
-deps_stay : (s : Stage) (e : Entry) (m k n : Moment) (written : Lock) → MayRun s m.tree → HasMade s e m k → InRecord written k n → AllByRecursion (λ p. item_at n.tree p ≡ item_at m.tree p) (dep_paths s)
-deps_stay s e m k n written may made write =
-    each_then m.tree k.tree n.tree (dep_paths s)
-    (each_both (λ p. is_in_any (stage_outs s) p ≡ false) (λ p. is_record p ≡ false) (λ p. item_at k.tree p ≡ item_at m.tree p) (dep_paths s) (λ p out own. made.anew.others.items p (or_from (is_in_any (stage_outs s) p) (in_scratch p) out (no_scratch_at p own))) (deps_outside (stage_outs s) (dep_paths s) may.ready.apart) may.kept.deps)
-    (each_from (λ p. is_record p ≡ false) (λ p. item_at n.tree p ≡ item_at k.tree p) (dep_paths s) (λ p own. write.others.paths.items p own) may.kept.deps)
-
-outs_stay : (s : Stage) (e : Entry) (m k n : Moment) (written : Lock) → MayRun s m.tree → HasMade s e m k → InRecord written k n → AllByRecursion (λ p. value_at n.tree p ≡ value_at k.tree p) (stage_outs s)
-outs_stay s e m k n written may made write =
-    values_stay k.tree n.tree (stage_outs s) made.files (each_from (λ p. is_record p ≡ false) (λ p. item_at n.tree p ≡ item_at k.tree p) (stage_outs s) (λ p own. write.others.paths.items p own) may.kept.outs)
-
-made_values : (effect : Effect) (s : Stage) (e : Entry) (m k n : Moment) (written : Lock) → m.aside.fixed.effect ≡ Some effect → MayRun s m.tree → HasMade s e m k → InRecord written k n → effect (invocation_of (job_of s) m.tree) ≡ gives (map (value_at n.tree) (stage_outs s))
-made_values effect s e m k n written told may made write =
-    let at_end : effect (invocation_of (job_of s) m.tree) ≡ gives (map (value_at k.tree) (stage_outs s)) =
-    if_some_at m.aside.fixed.effect (λ x. x (invocation_of (job_of s) m.tree) ≡ gives (map (value_at k.tree) (stage_outs s))) effect told made.values in
-    at_end ∙ ap gives (sym (same_values k.tree n.tree (stage_outs s) (outs_stay s e m k n written may made write)))
-
-still_present : (s : Stage) (e : Entry) (m k n : Moment) (written : Lock) → MayRun s m.tree → HasMade s e m k → InRecord written k n → IsPresent e s n.tree
-still_present s e m k n written may made write =
-    let files = files_of_deps s.name m.tree (dep_paths s) may.deps in
-    let dep_values = values_stay m.tree n.tree (dep_paths s) files (deps_stay s e m k n written may made write) in
-    let deps = same_names m.tree n.tree s.dir (in_order s.deps) (all_in_order (path_from s.dir) (λ p. value_at n.tree p ≡ value_at m.tree p) s.deps dep_values) in
-    let outs = same_names k.tree n.tree s.dir (in_order s.outs) (all_in_order (path_from s.dir) (λ p. value_at n.tree p ≡ value_at k.tree p) s.outs (outs_stay s e m k n written may made write)) in
-    let of_stage = present_all s n.tree e.deps e.outs (deps ∙ made.deps) (outs ∙ made.outs) in
-    let of_commands = subst (λ (commands : List (List ℕ)). IsPresent (record { commands = commands; deps = e.deps; params = []; outs = e.outs }) s n.tree) (sym made.commands) of_stage in
-    subst (λ (params : List ParamFile). IsPresent (record { commands = e.commands; deps = e.deps; params = params; outs = e.outs }) s n.tree) (sym made.params) of_commands
-
-pub entry_of_run : (effect : Effect) (s : Stage) (e : Entry) (m k n : Moment) (written : Lock) → m.aside.fixed.effect ≡ Some effect → MayRun s m.tree → HasMade s e m k → InRecord written k n → IsEntryOf effect (s ∷ []) m n (s, e)
-entry_of_run effect s e m k n written told may made write =
-    let files = files_of_deps s.name m.tree (dep_paths s) may.deps in
-    let given : invocation_of (job_of s) n.tree ≡ invocation_of (job_of s) m.tree =
-    same_given s m.tree n.tree may.ready files (deps_stay s e m k n written may made write) in
-    record {
-      among = record { before = []; after = []; cut = refl };
-      ran = record {
-        before = [];
-        after = [];
-        ran = ap (λ (f : Fixed). f.ran) write.others.aside.fixed ∙ made.ran ∙ ap (λ (jobs : List Job). jobs ++ job_of s ∷ []) (sym (append-nil m.aside.fixed.ran));
-      };
-      made = ap effect given ∙ made_values effect s e m k n written told may made write;
-      present = still_present s e m k n written may made write;
-      deps_sized = sized_paths e.deps made.form.deps;
-      outs_sized = sized_paths e.outs made.form.outs;
-    }
-
--- ---- the lock is written
-
-runs_of : (effect : Effect) (s : Stage) (e : Entry) (lock after : Lock) (m k n : Moment) (written : Lock) → m.aside.fixed.effect ≡ Some effect → MayRun s m.tree → HasMade s e m k → InRecord written k n → IsTree n.tree → after ≡ set lock s.name e → Runs is_record effect s (standing m.tree lock) (standing n.tree after)
-runs_of effect s e lock after m k n written told may made write stands remembered =
-    record {
-      entry = e;
-      values = made_values effect s e m k n written told may made write;
-      present = still_present s e m k n written may made write;
-      lock = remembered;
-      others = λ p out own. write.others.paths.items p own ∙ made.anew.others.items p (or_from (is_in_any (stage_outs s) p) (in_scratch p) out (no_scratch_at p own));
-      stands = stands;
-    }
-
-pub runs_of_record : (s : Stage) (e : Entry) (lock after : Lock) (m k n : Moment) (written : Lock) (r : Result (Unit {0}) Fault) → MayRun s m.tree → HasMade s e m k → InRecord written k n → IsTree n.tree → OnOk r (after ≡ set lock s.name e) → OnOk r (IfSome m.aside.fixed.effect (λ effect. Runs is_record effect s (standing m.tree lock) (standing n.tree after)))
-runs_of_record s e lock after m k n written (Err fault) may made write stands remembered = tt
-runs_of_record s e lock after m k n written (Ok done) may made write stands remembered =
-    if_some m.aside.fixed.effect (λ effect. Runs is_record effect s (standing m.tree lock) (standing n.tree after)) (λ effect told. runs_of effect s e lock after m k n written told may made write stands remembered)
-
-have_run_then : (s : Stage) (m k n : Moment) → HaveRun (s ∷ []) m k → n.aside.fixed ≡ k.aside.fixed → HaveRun (s ∷ []) m n
-have_run_then s m k n h same = record { jobs = h.jobs; ran = ap (λ (f : Fixed). f.ran) same ∙ h.ran; some = h.some }
-
-recorded : (effect : Effect) (s : Stage) (e : Entry) (lock : Lock) (m k end n : Moment) → IsSameUnder lock_path m k → IsEntryOf effect (s ∷ []) m end (s, e) → IsSameUnder lock_path k n ⊎ IsNewLock (set lock s.name e) n → IsSameUnder lock_path m n ⊎ IsRecorded effect (s ∷ []) lock m end n
-recorded effect s e lock m k end n before entry (inl same) = inl (same_under_then lock_path m k n before same)
-recorded effect s e lock m k end n before entry (inr new) =
-    inr (record { entries = (s, e) ∷ []; some = λ none. absurd (cc); made = (entry, tt); stands = new })
-
-turns_of_write : (effect : Effect) (s : Stage) (e : Entry) (lock : Lock) (m k end n : Moment) → MayRun s m.tree → HasMade s e m k → IsEntryOf effect (s ∷ []) m end (s, e) → InRecord (set lock s.name e) k n → InTurns effect (s ∷ []) lock m end n
-turns_of_write effect s e lock m k end n may made entry write =
-    let anew = made.anew in
-    let area = in_turns (s ∷ []) in
-    record {
-      others = keeps_paths_then area m k n (keeps_paths_in (in_anew s) area m k (λ p out. anew_area s p out) anew.others) (keeps_paths_in is_record area k n (λ p out. (turn_area s p out).1) write.others.paths);
-      dvc = made_then_made dvc_path m k n anew.dvc write.dvc;
-      same_effect = ap (λ (f : Fixed). f.effect) write.others.aside.fixed ∙ anew.effect;
-      book = grows_then m.aside.book k.aside.book n.aside.book anew.book write.others.aside.book;
-      ran = have_run_then s m k n anew.ran write.others.aside.fixed;
-      remembered = recorded effect s e lock m k end n (same_lock s m k may.ready may.kept anew) entry write.path;
-    }
-
-pub moments_of_record : (s : Stage) (e : Entry) (lock : Lock) (start ran end : History) → MayRun s start.present.tree → HasMade s e start.present ran.present → Passes (InAnew s start.present) start ran → Passes (InRecord (set lock s.name e) ran.present) ran end → IfSome start.present.aside.fixed.effect (λ effect. Passes (InTurns effect (s ∷ []) lock start.present end.present) start end)
-moments_of_record s e lock start ran end may made anew write =
-    let m = start.present in
-    let written = InRecord (set lock s.name e) ran.present in
-    if_some m.aside.fixed.effect (λ effect. Passes (InTurns effect (s ∷ []) lock m end.present) start end) (λ effect told.
-    let turns = InTurns effect (s ∷ []) lock m end.present in
-    let entry = entry_of_run effect s e m ran.present end.present (set lock s.name e) told may made write.now in
-    passes_on turns written start ran end (passes_weaker (InAnew s m) turns start ran (λ n k. turns_of_anew effect s lock m end.present n may.ready may.kept k) anew) (λ n w. turns_of_write effect s e lock m ran.present end.present n may made entry w) write)
-
--- ---- the lock that is left where its write has failed
-
-left_by : (effect : Effect) (s : Stage) (e : Entry) (lock : Lock) (m k n : Moment) → IsSameUnder lock_path m k → IsEntryOf effect (s ∷ []) m n (s, e) → IsSameUnder lock_path k n ⊎ IsNewLock (set lock s.name e) n → IsLeftLock effect s lock WorldFault m n
-left_by effect s e lock m k n before entry (inl same) = inl (same_under_then lock_path m k n before same)
-left_by effect s e lock m k n before entry (inr new) = inr (refl, e, entry, new)
-
-left_after : (effect : Effect) (s : Stage) (e : Entry) (lock : Lock) (m k n : Moment) (fault : Fault) → m.aside.fixed.effect ≡ Some effect → MayRun s m.tree → HasMade s e m k → InRecord (set lock s.name e) k n → MayBe record_kinds (Some fault) → (fault ≡ NoMemory → n ≡ k) → IsLeftLock effect s lock fault m n
-left_after effect s e lock m k n NoMemory told may made write kind same =
-    inl (subst (IsSameUnder lock_path m) (sym (same refl)) (same_lock s m k may.ready may.kept made.anew))
-left_after effect s e lock m k n WorldFault told may made write kind same =
-    left_by effect s e lock m k n (same_lock s m k may.ready may.kept made.anew) (entry_of_run effect s e m k n (set lock s.name e) told may made write) write.path
-left_after effect s e lock m k n _ told may made write kind same = absurd (false≢true kind)
-
-pub left_of_record : (s : Stage) (e : Entry) (lock : Lock) (m k n : Moment) (r : Result (Unit {0}) Fault) → MayRun s m.tree → HasMade s e m k → InRecord (set lock s.name e) k n → MayBe record_kinds (fault_in r) → (r ≡ Err NoMemory → n ≡ k) → IfErr r (λ fault. IfSome m.aside.fixed.effect (λ effect. IsLeftLock effect s lock fault m n))
-left_of_record s e lock m k n (Ok done) may made write kind same = tt
-left_of_record s e lock m k n (Err fault) may made write kind same =
-    if_some m.aside.fixed.effect (λ effect. IsLeftLock effect s lock fault m n) (λ effect told. left_after effect s e lock m k n fault told may made write kind (λ none. same (cc)))
-
--- ---- what the next turn finds
-
-file_no_folder : (bytes : List ℕ) → Some (file bytes) ≡ Some folder → ⊥
-file_no_folder bytes e = cc
-
-no_folder_then : (written : Lock) (k n : Moment) → IsSameUnder lock_path k n ⊎ IsNewLock written n → item_at k.tree lock_path ≢ Some folder → item_at n.tree lock_path ≢ Some folder
-no_folder_then written k n (inl same) none e = none (sym (same.items lock_path (under-refl lock_path)) ∙ e)
-no_folder_then written k n (inr new) none e = file_no_folder _ (sym new.file.stands ∙ e)
-
-can_write_again : (written : Lock) (k n : Moment) → InRecord written k n → CanWrite lock_path k.tree → CanWrite lock_path n.tree
-can_write_again written k n write before = record {
-  room = record { above = root_above_lock n.tree; no_folder = no_folder_then written k n write.path before.room.no_folder };
-  no_file = no_file_then k n write.dvc before.no_file;
-}
-
--- the lock has the stage's present entry, and may be written again
-pub next_of_record : (s : Stage) (e : Entry) (lock after : Lock) (m k n : Moment) (written : Lock) (r : Result (Unit {0}) Fault) → MayRun s m.tree → HasMade s e m k → InRecord written k n → CanWrite lock_path m.tree → OnOk r (after ≡ set lock s.name e) → OnOk r (IsNext s Run lock after n.tree)
-next_of_record s e lock after m k n written (Err fault) may made write place remembered = tt
-next_of_record s e lock after m k n written (Ok done) may made write place remembered = record {
-  after = (e, remembered, still_present s e m k n written may made write, sized_paths e.deps made.form.deps, sized_paths e.outs made.form.outs);
-  place = can_write_again written k n write (can_write s m k may.ready may.kept made.anew place);
-}
-
--- ---- the lane is begun before the run
-
-begun_folder : (q : Path) (m n : Moment) → InScratch m n → is_record q ≡ false → item_at m.tree q ≡ Some folder → item_at n.tree q ≡ Some folder
-begun_folder q m n scratch own stands =
-    scratch_folder q m n scratch (or_parts (is_at dvc_path q) (under tmp_path q) (no_scratch_at q own)).1 stands
-
--- the folder above a path that is no lane is none either
-parent_no_tmp : (p : Path) → is_record p ≡ false → under tmp_path (parent p) ≡ false
-parent_no_tmp p own =
-    let tmp = (or_parts (is_at dvc_path p) (under tmp_path p) (no_scratch_at p own)).1 in
-    false_from_ne_true (under tmp_path (parent p)) (λ e. both_ways (under tmp_path p) tmp (under-trans tmp_path (parent p) p e (under_parent p)))
-
-pub begun_folders : (s : Stage) (m n : Moment) → IsReady s → IsKept is_record s → InScratch m n → HasFolders (job_of s) m.tree → HasFolders (job_of s) n.tree
-begun_folders s m n ready kept scratch folders =
-    let stand : AllByRecursion (λ out. item_at m.tree (parent out) ≡ Some folder) (stage_outs s) =
-    subst (AllByRecursion (λ out. item_at m.tree (parent out) ≡ Some folder)) (job_outs s ready) folders.above in
-    record {
-      dir = begun_folder s.dir m n scratch kept.dir folders.dir;
-      above = subst (AllByRecursion (λ out. item_at n.tree (parent out) ≡ Some folder)) (sym (job_outs s ready)) (each_both (λ out. is_record out ≡ false) (λ out. item_at m.tree (parent out) ≡ Some folder) (λ out. item_at n.tree (parent out) ≡ Some folder) (stage_outs s) (λ out own e. scratch_folder (parent out) m n scratch (parent_no_tmp out own) e) kept.outs stand);
-    }
-
-begun_items : (s : Stage) (m n : Moment) → IsKept is_record s → InScratch m n → AllByRecursion (λ p. item_at n.tree p ≡ item_at m.tree p) (dep_paths s)
-begun_items s m n kept scratch =
-    each_from (λ p. is_record p ≡ false) (λ p. item_at n.tree p ≡ item_at m.tree p) (dep_paths s) (λ p own. (scratch_same p m n scratch (no_scratch_at p own)).item) kept.deps
-
-same_deps : (name : List ℕ) (t u : Tree) (ps : List Path) → AllByRecursion (λ p. item_at u p ≡ item_at t p) ps → dep_fault name u ps ≡ dep_fault name t ps
-same_deps name t u [] same = refl
-same_deps name t u (p ∷ ps) same =
-    ap (λ (i : Option Item). refused_dep name i p (dep_fault name u ps)) same.0 ∙ ap (refused_dep name (item_at t p) p) (same_deps name t u ps same.1)
-
-pub begun_deps : (s : Stage) (m n : Moment) → IsKept is_record s → InScratch m n → dep_fault s.name m.tree (dep_paths s) ≡ None → dep_fault s.name n.tree (dep_paths s) ≡ None
-begun_deps s m n kept scratch none = same_deps s.name m.tree n.tree (dep_paths s) (begun_items s m n kept scratch) ∙ none
-
-pub begun_invocation : (s : Stage) (m n : Moment) → IsReady s → IsKept is_record s → InScratch m n → dep_fault s.name m.tree (dep_paths s) ≡ None → invocation_of (job_of s) n.tree ≡ invocation_of (job_of s) m.tree
-begun_invocation s m n ready kept scratch none =
-    same_given s m.tree n.tree ready (files_of_deps s.name m.tree (dep_paths s) none) (begun_items s m n kept scratch)
-
--- what is so of the effect where the lane is begun is so at the start
-pub begun_effect : (s : Stage) (m n : Moment) (P : Outcome → Type 0) → IsReady s → IsKept is_record s → InScratch m n → dep_fault s.name m.tree (dep_paths s) ≡ None → IfSome n.aside.fixed.effect (λ effect. P (effect (invocation_of (job_of s) n.tree))) → IfSome m.aside.fixed.effect (λ effect. P (effect (invocation_of (job_of s) m.tree)))
-begun_effect s m n P ready kept scratch none h =
-    let fixed : n.aside.fixed.effect ≡ m.aside.fixed.effect = ap (λ (f : Fixed). f.effect) scratch.others.aside.fixed in
-    let here : IfSome m.aside.fixed.effect (λ effect. P (effect (invocation_of (job_of s) n.tree))) =
-    subst (λ (e : Option Effect). IfSome e (λ effect. P (effect (invocation_of (job_of s) n.tree)))) fixed h in
-    subst (λ given. IfSome m.aside.fixed.effect (λ effect. P (effect given))) (begun_invocation s m n ready kept scratch none) here
-
-pub anew_of_scratch : (s : Stage) (m n : Moment) → InScratch m n → InAnew s m n
-anew_of_scratch s m n scratch =
-    record {
-      others = keeps_paths_in in_scratch (in_anew s) m n (λ p out. (or_parts (is_in_any (stage_outs s) p) (in_scratch p) out).1) scratch.others.paths;
-      dvc = scratch.dvc;
-      effect = ap (λ (f : Fixed). f.effect) scratch.others.aside.fixed;
-      book = scratch.others.aside.book;
-      ran = none_ran s m n scratch.others.aside.fixed;
-    }
-
-anew_then : (s : Stage) (m b n : Moment) → InScratch m b → InAnew s b n → InAnew s m n
-anew_then s m b n scratch h =
-    let first = anew_of_scratch s m b scratch in
-    record {
-      others = keeps_paths_then (in_anew s) m b n first.others h.others;
-      dvc = made_then_made dvc_path m b n first.dvc h.dvc;
-      effect = h.effect ∙ first.effect;
-      book = grows_then m.aside.book b.aside.book n.aside.book first.book h.book;
-      ran = record { jobs = h.ran.jobs; ran = h.ran.ran ∙ ap (λ (f : Fixed). f.ran ++ h.ran.jobs) scratch.others.aside.fixed; some = h.ran.some };
-    }
-
--- the moments of the begin, and then those of the run
-pub begun_moments : (s : Stage) (a b c : History) → Passes (InScratch a.present) a b → Passes (InAnew s b.present) b c → Passes (InAnew s a.present) a c
-begun_moments s a b c scratch run =
-    passes_on (InAnew s a.present) (InAnew s b.present) a b c (passes_weaker (InScratch a.present) (InAnew s a.present) a b (λ n h. anew_of_scratch s a.present n h) scratch) (λ n h. anew_then s a.present b.present n scratch.now h) run
-
-pub some_map : (o : Option Effect) (P Q : Effect → Type 0) → ((e : Effect) → P e → Q e) → IfSome o P → IfSome o Q
-some_map None P Q f h = tt
-some_map (Some e) P Q f h = f e h
-
--- a write of the lock that fails is no refusal that is due
-pub recorded_answer : (r : Result (Unit {0}) Fault) (due : Option Fault) → due ≡ None → MayBe record_kinds (fault_in r) → IsAnswer (fault_in r) due
-recorded_answer (Ok done) due none kind = none
-recorded_answer (Err fault) due none kind = inl (record_free fault kind)
+  pub turned_recorded : {T : Type 0} (r : Result T Fault) (new : Lock) → OnOk r (new ≡ lock_of_run) → OnOk r (IsNewLock lock_of_run now.present) → (r ≡ Err NoMemory → now ≡ put) → MayBe record_kinds (fault_in r) → Turned flags effect s Run lock new (fault_in r) old now
+  turned_recorded (Ok done) new is written untouched kind =
+      subst (λ (l : Lock). Turned flags effect s Run lock l None old now) (sym is) (whole_turn written)
+  turned_recorded (Err NoMemory) new is written untouched kind = stopped_turn new (untouched refl)
+  turned_recorded (Err WorldFault) new is written untouched kind = late_turn new
+  turned_recorded (Err _) new is written untouched kind = absurd (false≢true kind)

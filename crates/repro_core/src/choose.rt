@@ -1,77 +1,78 @@
-// What a turn chooses, by what is remembered and what stands there.
-ghost use Rattle.std.specs.Prelude.{◌≡◌, IsTrue, IfOk, IsErrOf, Some, if◌then◌else◌};
+// What a turn sees and chooses, by what is remembered and what stands there.
+ghost use Rattle.std.specs.Prelude.{◌≡◌, [], false, not, ◌&&◌, ◌||◌, None, IsTrue, IfOk, IsErrOf};
 ghost use Rattle.dvc_base.specs.Answer.{fault_in, IsAnswer};
 ghost use Rattle.dvc_base.specs.Fault.{MayBe, IsHonest};
 ghost use Rattle.dvc_base.specs.declared.fault.Fault.TheVariants.{WorldFault};
 ghost use Rattle.world_api.specs.History.{IsCaused};
 ghost use Rattle.world_api.specs.Outside.{tree_of, IsUntouched};
 ghost use Rattle.lock_files.specs.Book.{entry_of};
-ghost use Rattle.repro_laws.specs.Stage.{job_of, dep_paths, IsReady};
-ghost use Rattle.repro_laws.specs.Due.{dep_fault};
-ghost use Rattle.repro_laws.specs.Entries.{named_paths};
-ghost use Rattle.repro_laws.specs.Choices.{is_always_changed, choice_by, choice_of};
-ghost use Rattle.repro_laws.specs.declared.stage.Choice.TheVariants.{Run};
-ghost use Rattle.repro_core.specs.Steps.{IsPrepared, AreNamed, see_kinds};
+ghost use Rattle.lock_files.specs.Form.{IsBook};
+ghost use Rattle.repro_laws.specs.Stage.{IsStage};
+ghost use Rattle.repro_laws.specs.Entries.{seen_at};
+ghost use Rattle.repro_laws.specs.Choices.{is_same_as};
+ghost use Rattle.repro_laws.specs.Refusals.{see_fault};
+ghost use Rattle.repro_laws.specs.Due.{standing_of, choice_at};
+ghost use Rattle.repro_core.specs.Steps.{choice_if, IsGoodSeen, see_kinds};
 ghost use Rattle.repro_core.specs.Telling.{TellsOwn};
 
-use crate::prepared::Prepared;
 use crate::see::see;
-use change_check::same_entry;
+use change_check::{Seen, same_entry};
 use dvc_base::Fault;
-use lock_files::{Entry, LockBook, PathEntries};
-use repro_laws::{Choice, Stage};
+use lock_files::LockBook;
+use repro_laws::{Flags, Stage};
 use std::alloc::Global;
 use world_api::ReadFiles;
 
-/// What a turn has chosen, and the names of the dependencies by which it did.
+/// What a turn has seen, and whether it skips the stage or runs it.
 #[derive(Drop)]
 pub(crate) struct Chosen {
-    pub(crate) choice: Choice,
-    pub(crate) deps: PathEntries,
+    pub(crate) skips: bool,
+    pub(crate) seen: Seen,
 }
 
-/// Looks at what stands at the stage's paths, and chooses.
+/// Looks at what stands at the stage's paths, and chooses. The first that is refused ends it: a dependency, in the order
+/// in which they are written, and then an output.
 pub(crate) fn choose_turn<F: ReadFiles>(
     alloc: Global,
     files: &mut F,
     lock: &LockBook,
     stage: &Stage,
-    prepared: &Prepared,
+    flags: Flags,
 ) -> Result<Chosen, Fault>
-    requires ready { IsReady stage.now }
-    requires prepared { IsPrepared stage.now prepared.now }
-    ensures answer { IsTrue F.tells → IsAnswer (fault_in result)
-        (dep_fault stage.now.name (tree_of (F.history files.old)) (dep_paths stage.now)) }
+    requires stage { IsStage stage.now }
+    requires form { IsBook lock.now }
+    // nothing is restored yet
+    requires no_restore { flags.run_cache ≡ false }
+    ensures answer { IsTrue F.tells → IsAnswer (fault_in result) (see_fault stage.now (tree_of (F.history files.old))) }
+    ensures seen { IsTrue F.tells → IfOk result (λ chosen.
+        chosen.seen ≡ seen_at stage.now [] (tree_of (F.history files.old))) }
     ensures chosen { IsTrue F.tells → IfOk result (λ chosen.
-        choice_of stage.now (tree_of (F.history files.old)) lock.now ≡ chosen.choice) }
-    ensures named { IsTrue F.tells → IfOk result (λ chosen.
-        named_paths (tree_of (F.history files.old)) stage.now.dir (job_of stage.now).deps ≡ Some chosen.deps) }
-    ensures good { IfOk result (λ chosen. AreNamed (job_of stage.now).deps chosen.deps) }
+        choice_at flags stage.now [] (standing_of (tree_of (F.history files.old)) lock.now)
+        ≡ (choice_if chosen.skips, None)) }
+    ensures good { IfOk result (λ chosen. IsGoodSeen stage.now chosen.seen) }
     ensures unchanged { IsUntouched F.tells (F.history files.old) (F.history files.new) }
-    ensures cause { IsCaused (F.faults files.old) (F.faults files.new) (IsErrOf result WorldFault) }
     ensures told { TellsOwn stage.now (fault_in result) }
     ensures kinds { MayBe see_kinds (fault_in result) }
     ensures honest { IsHonest F.tells (fault_in result) }
+    ensures cause { IsCaused (F.faults files.old) (F.faults files.new) (IsErrOf result WorldFault) }
 {
-    let seen = see(alloc, files, stage, prepared)?;
-    let choice = choose(lock, stage, &seen.present);
-    Ok(Chosen {
-        choice,
-        deps: seen.deps,
-    })
+    let seen = see(alloc, files, stage)?;
+    let skips = can_skip(lock, stage, flags, &seen);
+    Ok(Chosen { skips, seen })
 }
 
-// A run of a stage without dependencies, which always counts as changed. Of others a skip where what is remembered is the
-// same as the entry that the stage has, and else a run.
-fn choose(lock: &LockBook, stage: &Stage, present: &Option<Entry>) -> Choice
-    ensures chosen { result ≡ (if is_always_changed stage.now
-        then Run else choice_by (entry_of lock.now stage.now.name) present.now) }
+// Whether nothing is forced, the stage doesn't always count as changed, and its entry tells just what is seen.
+fn can_skip(lock: &LockBook, stage: &Stage, flags: Flags, seen: &Seen) -> bool
+    requires form { IsBook lock.now }
+    requires no_params { seen.now.params ≡ [] }
+    ensures exact { result ≡
+        (not (flags.force || stage.now.always) && is_same_as (entry_of lock.now stage.now.name) seen.now) }
 {
-    if stage.deps.as_slice().is_empty() {
-        return Choice::Run;
+    if flags.force || stage.always {
+        return false;
     }
-    match (lock.get(stage.name.as_str()), present) {
-        (Some(remembered), Some(present)) if same_entry(remembered, present) => Choice::Skip,
-        _ => Choice::Run,
+    match lock.get(stage.name.as_str()) {
+        Some(entry) => same_entry(entry, seen),
+        None => false,
     }
 }

@@ -2,16 +2,21 @@
 #![tactic(auto)]
 
 mod choose;
+mod folders;
+mod job;
 mod lines;
-mod looks;
-mod names;
-mod outcome;
+mod look;
+mod paths;
 mod prepared;
+mod put;
 mod record;
+mod road;
 mod run;
 mod see;
+mod store;
 mod turn;
 mod turns;
+mod work;
 
 pub use turn::run_stage;
 pub use turns::repro;

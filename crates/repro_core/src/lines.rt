@@ -31,7 +31,7 @@ pub(crate) fn put_choice<K: Sink>(
     }
 }
 
-// A skip is one line with the stage's name, and a run is one and then each command.
+// A skip and a restore are one line with the stage's name, and a run is one and then each command.
 fn lines_of(alloc: Global, stage: &Stage, choice: Choice) -> Result<String, NoMemory>
     ensures made { IfOk result (λ lines. string_bytes lines ≡ lines_of stage.now choice) }
 {
@@ -43,6 +43,14 @@ fn lines_of(alloc: Global, stage: &Stage, choice: Choice) -> Result<String, NoMe
                 "Stage '",
                 &stage.name,
                 "' didn't change, skipping\n",
+            )?;
+        }
+        Choice::Restore => {
+            add_between(
+                &mut lines,
+                "Stage '",
+                &stage.name,
+                "' is cached - skipping run, checking out outputs\n",
             )?;
         }
         Choice::Run => {

@@ -1,79 +1,75 @@
-// What a turn has at hand before its first change: the stage's job, and the paths that it names.
-ghost use Rattle.std.specs.Prelude.{◌≡◌, map, IsTrue, IfOk};
-ghost use Rattle.std.specs.List.{list_all};
-ghost use Rattle.world_api.specs.Effect.{path_from};
-ghost use Rattle.world_api.specs.Calls.{is_path};
-ghost use Rattle.repro_laws.specs.Stage.{job_of, IsReady};
-ghost use Rattle.repro_core.specs.Steps.{IsPrepared};
+// What a run has at hand before its first change: the stage's job, the folders that it needs, and the lock's path.
+ghost use Rattle.std.specs.Prelude.{◌≡◌, ◌∷◌, [], map, IfOk};
+ghost use Rattle.repro_laws.specs.Stage.{dep_text, out_text, job_with, IsStage};
+ghost use Rattle.repro_core.specs.Steps.{above_out, IsPrepared};
 
-use dvc_base::{NoMemory, PathFault, Plain, Plural, Rel, Text, Texts};
-use repro_laws::{Stage, in_order};
+use crate::paths::above;
+use dvc_base::{NoMemory, ParamFiles, Plain, Plural, Rel, Texts};
+use repro_laws::{Dep, Out, Stage};
 use std::alloc::Global;
 use world_api::{Job, lock_path};
 
-/// All of a turn that takes memory, so that no want of it comes between its changes.
+/// What a run needs memory for before it touches anything.
 #[derive(Drop)]
 pub(crate) struct Prepared {
     pub(crate) job: Job,
-    /// The dependencies as they are written.
-    pub(crate) looks: Plural<Rel>,
-    /// The dependencies in the job's order.
-    pub(crate) deps: Plural<Rel>,
-    pub(crate) outs: Plural<Rel>,
+    /// The stage's folder, and the one above each output as they are written.
+    pub(crate) roads: Plural<Rel>,
     pub(crate) lock: Rel,
 }
 
 pub(crate) fn prepared_of(alloc: Global, stage: &Stage) -> Result<Prepared, NoMemory>
-    requires { IsReady stage.now }
+    requires { IsStage stage.now }
     ensures made { IfOk result (IsPrepared stage.now) }
 {
     let job = job_of(alloc, stage)?;
-    let looks = paths_from(alloc, &stage.dir, &stage.deps)?;
-    let deps = paths_from(alloc, &stage.dir, &job.deps)?;
-    let outs = paths_from(alloc, &stage.dir, &stage.outs)?;
+    let roads = roads_of(alloc, stage)?;
     let lock = lock_path(alloc)?;
-    Ok(Prepared {
-        job,
-        looks,
-        deps,
-        outs,
-        lock,
-    })
+    Ok(Prepared { job, roads, lock })
 }
 
-// The outputs are in order already.
+// The job tracks no parameters yet.
 fn job_of(alloc: Global, stage: &Stage) -> Result<Job, NoMemory>
-    requires { IsReady stage.now }
-    ensures made { IfOk result (λ job. job ≡ job_of stage.now) }
+    ensures made { IfOk result (λ job. job ≡ job_with stage.now []) }
 {
     Ok(Job {
         stage: stage.name.copy(alloc)?,
         commands: stage.commands.copy(alloc)?,
         dir: stage.dir.copy(alloc)?,
-        deps: in_order(alloc, &stage.deps)?,
-        outs: stage.outs.copy(alloc)?,
+        deps: dep_texts(alloc, stage.deps.as_slice())?,
+        params: ParamFiles::new(alloc),
+        outs: out_texts(alloc, stage.made.as_slice())?,
     })
 }
 
-// The paths that texts name from a folder.
-fn paths_from(alloc: Global, dir: &Rel, texts: &Texts) -> Result<Plural<Rel>, NoMemory>
-    requires { IsTrue (list_all (is_path dir.now) texts.now) }
-    ensures named { IfOk result (λ paths. paths ≡ map (path_from dir.now) texts.now) }
+fn dep_texts(alloc: Global, deps: &[Dep]) -> Result<Texts, NoMemory>
+    ensures same { IfOk result (λ texts. texts ≡ map dep_text deps.now) }
 {
-    let mut paths = Plural::new(alloc);
-    for text in texts.as_slice() {
-        paths.push(path_from(alloc, dir, text)?)?;
+    let mut texts = Texts::new(alloc);
+    for dep in deps {
+        texts.push(dep.text.copy(alloc)?)?;
     }
-    Ok(paths)
+    Ok(texts)
 }
 
-fn path_from(alloc: Global, dir: &Rel, text: &Text) -> Result<Rel, NoMemory>
-    requires { IsTrue (is_path dir.now text.now) }
-    ensures named { IfOk result (λ path. path ≡ path_from dir.now text.now) }
+fn out_texts(alloc: Global, outs: &[Out]) -> Result<Texts, NoMemory>
+    ensures same { IfOk result (λ texts. texts ≡ map out_text outs.now) }
 {
-    match dir.join(alloc, text.as_str()) {
-        Ok(path) => Ok(path),
-        Err(PathFault::NoMemory) => Err(NoMemory),
-        Err(_) => unreachable!(),
+    let mut texts = Texts::new(alloc);
+    for out in outs {
+        texts.push(out.text.copy(alloc)?)?;
     }
+    Ok(texts)
+}
+
+fn roads_of(alloc: Global, stage: &Stage) -> Result<Plural<Rel>, NoMemory>
+    requires { IsStage stage.now }
+    ensures made { IfOk result (λ roads. roads ≡ stage.now.dir ∷ map above_out stage.now.outs) }
+{
+    let mut roads = Plural::new(alloc);
+    roads.push(stage.dir.copy(alloc)?)?;
+    for out in stage.outs.as_slice() {
+        roads.push(above(alloc, &out.path)?)?;
+    }
+    Ok(roads)
 }

@@ -1,27 +1,26 @@
 // The turns of stages, one after another.
-ghost use Rattle.std.specs.Prelude.{◌≡◌, [], IsTrue, IfSome, IfErr, OnOk, IsErrOf, Some};
-ghost use Rattle.std.specs.List.{AllByRecursion};
-ghost use Rattle.dvc_base.specs.declared.fault.Fault.TheVariants.{WorldFault, OutFault};
-ghost use Rattle.world_api.specs.Tree.{Tree};
-ghost use Rattle.world_api.specs.History.{Passes, IsCaused};
-ghost use Rattle.world_api.specs.Writes.{CanWrite};
-ghost use Rattle.repro_laws.specs.Due.{report, jobs};
-ghost use Rattle.repro_laws.specs.Choices.{due, fault_of};
+ghost use Rattle.std.specs.Prelude.{◌≡◌, [], false, IsTrue, IfErr, OnOk, IsErrOf, Some};
+ghost use Rattle.dvc_base.specs.Answer.{fault_in};
 ghost use Rattle.dvc_base.specs.Fault.{MayBe, IsHonest};
-ghost use Rattle.repro_core.specs.Steps.{turn_kinds};
-ghost use Rattle.repro_core.specs.Telling.{TellsOfOne};
-ghost use Rattle.dvc_base.specs.Answer.{fault_in, IsAnswer, Gains};
-ghost use Rattle.repro_laws.specs.Turns.{standing};
-ghost use Rattle.repro_laws.specs.Headline.{IsPlanned, LeavesAnew};
-ghost use Rattle.repro_laws.specs.Moments.{is_record, InTurns};
+ghost use Rattle.dvc_base.specs.declared.fault.Fault.TheVariants.{WorldFault, OutFault};
+ghost use Rattle.world_api.specs.History.{Passes, IsCaused};
+ghost use Rattle.world_api.specs.Outside.{tree_of, jobs_of, WithEffect};
+ghost use Rattle.world_api.specs.Writes.{CanWrite};
 ghost use Rattle.world_api.specs.Layout.{lock_path};
 ghost use Rattle.lock_files.specs.Form.{IsBook};
-ghost use Rattle.repro_laws.specs.Sound.{lock_of, IsRecordable, AreReliable, AreHalted, IsReport};
+ghost use Rattle.repro_laws.specs.Due.{standing_of, due, fault_of, report, jobs};
+ghost use Rattle.repro_laws.specs.Turns.{state};
+ghost use Rattle.repro_laws.specs.Headline.{IsPlanned, LeavesAnew};
+ghost use Rattle.repro_laws.specs.Moments.{is_own, InTurns};
+ghost use Rattle.repro_laws.specs.Sound.{lock_of, AreReliable, IsAnswerAt, GainsAt, AreHalted, IsReport};
+ghost use Rattle.repro_core.specs.Steps.{turn_kinds};
+ghost use Rattle.repro_core.specs.Telling.{TellsOfOne};
+ghost use Rattle.repro_core.specs.Turning.{JobsGain, AreTaken};
 
 use crate::turn::run_stage;
 use dvc_base::Fault;
 use lock_files::LockBook;
-use repro_laws::Stage;
+use repro_laws::{Flags, Stage};
 use std::alloc::Global;
 use world_api::{Sink, World};
 
@@ -33,55 +32,60 @@ pub fn repro<W: World, K: Sink>(
     world: &mut W,
     lock: &mut LockBook,
     stages: &[Stage],
+    flags: Flags,
     out: &mut K,
 ) -> Result<(), Fault>
-    requires planned { (t : Tree) → IsPlanned is_record stages.now t }
-    requires recordable { AllByRecursion IsRecordable stages.now }
+    requires planned { IsPlanned is_own stages.now }
     requires form { IsBook lock.old }
-    requires lock { IsTrue W.tells → lock_of (W.history world.old).present.tree ≡ Some lock.old }
-    requires place { IsTrue W.tells → CanWrite lock_path (W.history world.old).present.tree }
+    requires lock { IsTrue W.tells → lock_of (tree_of (W.history world.old)) ≡ Some lock.old }
+    requires place { IsTrue W.tells → CanWrite lock_path (tree_of (W.history world.old)) }
+    // nothing is restored yet
+    requires no_restore { flags.run_cache ≡ false }
 
-    // Ok leaves the outputs and the lock's entries of running every stage anew, and all else as before: where what was
-    // remembered is true, and no two contents met share an MD5.
-    ensures headline { IsTrue W.tells → OnOk result (IfSome (W.history world.old).present.aside.fixed.effect (λ effect.
+    // Ok leaves the outputs and the lock's entries of running every stage anew, and all else as before but for folders on the
+    // stages' ways: where what was remembered is true, and no two contents met share an MD5.
+    ensures headline { OnOk result (WithEffect W.tells (W.history world.old) (λ effect.
         AreReliable effect stages.now lock.old (W.history world.old).present (W.history world.new).present →
-        LeavesAnew is_record effect stages.now
-        (standing (W.history world.old).present.tree lock.old) (standing (W.history world.new).present.tree lock.new))) }
-    ensures remembered { IsTrue W.tells → OnOk result (lock_of (W.history world.new).present.tree ≡ Some lock.new) }
+        LeavesAnew is_own effect stages.now
+        (state (tree_of (W.history world.old)) lock.old) (state (tree_of (W.history world.new)) lock.new))) }
+    // Whatever was remembered, Ok leaves turns of all stages, whose jobs have run.
+    ensures taken { OnOk result (WithEffect W.tells (W.history world.old) (λ effect.
+        AreTaken flags effect stages.now lock.old lock.new (W.history world.old).present (W.history world.new).present)) }
+    ensures remembered { IsTrue W.tells → OnOk result (lock_of (tree_of (W.history world.new)) ≡ Some lock.new) }
     ensures form { IsBook lock.new }
 
     // It answers the refusal that is due, where one is, and else Ok; the jobs and the lines are those that are due.
-    ensures answer { IsTrue W.tells → IfSome (W.history world.old).present.aside.fixed.effect (λ effect.
+    ensures answer { WithEffect W.tells (W.history world.old) (λ effect.
         AreReliable effect stages.now lock.old (W.history world.old).present (W.history world.new).present →
-        IsAnswer (fault_in result) (fault_of effect stages.now (W.history world.old).present.tree lock.old)) }
-    ensures ran { IsTrue W.tells → IfSome (W.history world.old).present.aside.fixed.effect (λ effect.
+        IsAnswerAt (tree_of (W.history world.new)) (fault_in result)
+        (fault_of flags effect stages.now (standing_of (tree_of (W.history world.old)) lock.old))) }
+    ensures ran { WithEffect W.tells (W.history world.old) (λ effect.
         AreReliable effect stages.now lock.old (W.history world.old).present (W.history world.new).present →
-        Gains (fault_in result) (W.history world.old).present.aside.fixed.ran
-        (jobs (due effect stages.now (W.history world.old).present.tree lock.old))
-        (W.history world.new).present.aside.fixed.ran) }
-    ensures report { IsTrue W.tells → IsTrue K.tells → IfSome (W.history world.old).present.aside.fixed.effect (λ effect.
+        JobsGain (tree_of (W.history world.new)) (fault_in result) (jobs_of (W.history world.old))
+        (jobs (due flags effect stages.now (standing_of (tree_of (W.history world.old)) lock.old)))
+        (jobs_of (W.history world.new))) }
+    ensures report { IsTrue K.tells → WithEffect W.tells (W.history world.old) (λ effect.
         AreReliable effect stages.now lock.old (W.history world.old).present (W.history world.new).present →
-        Gains (fault_in result) (K.taken out.old)
-        (report (due effect stages.now (W.history world.old).present.tree lock.old)) (K.taken out.new)) }
+        GainsAt (tree_of (W.history world.new)) (fault_in result) (K.taken out.old)
+        (report (due flags effect stages.now (standing_of (tree_of (W.history world.old)) lock.old))) (K.taken out.new)) }
 
     // Over a world that tells nothing the lines are still those of a choice for each stage, or a front of them.
     ensures lines { IsTrue K.tells → IsReport stages.now (fault_in result) (K.taken out.old) (K.taken out.new) }
 
-    // Where no turn is due nothing is touched (the first stage's dependency is refused: by `refused_first` of `run_stage`).
-    ensures untouched { IsTrue W.tells → IfSome (W.history world.old).present.aside.fixed.effect (λ effect.
-        due effect stages.now (W.history world.old).present.tree lock.old ≡ [] →
+    // Where no turn is due nothing is touched.
+    ensures untouched { WithEffect W.tells (W.history world.old) (λ effect.
+        due flags effect stages.now (standing_of (tree_of (W.history world.old)) lock.old) ≡ [] →
         W.history world.new ≡ W.history world.old) }
 
     // After any other answer the lock has the entries of the turns that ended, and that of the next one only where a
     // call to the world failed.
-    ensures halted { IsTrue W.tells → IfErr result (λ fault.
-        IfSome (W.history world.old).present.aside.fixed.effect (λ effect.
-        AreHalted effect stages.now lock.old fault (W.history world.old).present (W.history world.new).present)) }
+    ensures halted { IfErr result (λ fault. WithEffect W.tells (W.history world.old) (λ effect.
+        AreHalted flags effect stages.now lock.old fault (W.history world.old).present (W.history world.new).present)) }
 
-    // In each moment only the outputs and the tool's own files are touched, and the lock is as it was, or has the entries
-    // of runs that have ended.
-    ensures moments { IsTrue W.tells → IfSome (W.history world.old).present.aside.fixed.effect (λ effect.
-        Passes (InTurns effect stages.now lock.old (W.history world.old).present (W.history world.new).present)
+    // In each moment only the outputs, the folders that runs need and the tool's own files are touched, no whole object is
+    // lost, and the lock is as it was, or has the entries of runs that have ended, in order and none skipped.
+    ensures moments { WithEffect W.tells (W.history world.old) (λ effect.
+        Passes (InTurns flags effect stages.now lock.old (W.history world.old).present (W.history world.new).present)
         (W.history world.old) (W.history world.new)) }
 
     // The outside is blamed only where it has counted a failure.
@@ -93,7 +97,7 @@ pub fn repro<W: World, K: Sink>(
     ensures honest { IsHonest W.tells (fault_in result) }
 {
     for stage in stages {
-        run_stage(alloc, world, lock, stage, out)?;
+        run_stage(alloc, world, lock, stage, flags, out)?;
     }
     Ok(())
 }

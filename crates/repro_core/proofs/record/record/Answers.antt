@@ -10,7 +10,7 @@ use Rattle.lock_files.specs.Book.{Lock, set}
 use Rattle.lock_files.specs.Form.{IsBook}
 use Rattle.lock_files.specs.Nodes.{lock_node}
 use Rattle.lock_files.specs.Read.{lock_read}
-use Rattle.repro_laws.proofs.RecordLemmas.{no_scratch}
+use Rattle.repro_core.proofs.RecordLemmas.{no_scratch}
 use Rattle.repro_core.specs.Steps.{InRecord}
 use Rattle.lock_files.proofs.TextLemmas.{book_set}
 use Rattle.repro_core.proofs.record.record.Goals as goal
