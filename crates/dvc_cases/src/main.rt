@@ -2,8 +2,8 @@
 //! many to be written down, of which a failure ends the program.
 //!
 //! A case is its name and, below it, its steps: `PATH < FILE` puts the text of a file of this folder, `PATH = TEXT` puts
-//! the text, `rm PATH` removes what stands there, and `dvc WORDS` does what the program does with these words. An empty
-//! line ends it. Each project begins with a file `in` that holds `abc`.
+//! the text, `rm PATH` removes what stands there, `show PATH` prints the file there, and `dvc WORDS` does what the program
+//! does with these words. An empty line ends it. Each project begins with a file `in` that holds `abc`.
 #![tactic(auto)]
 
 mod call;

@@ -50,6 +50,9 @@ fn step<R: Runtime>(rt: &R, alloc: Global, line: &str, project: &mut Project) ->
     if let Some(path) = line.strip_prefix("rm ") {
         return remove(alloc, project, path);
     }
+    if let Some(path) = line.strip_prefix("show ") {
+        return print_file(rt, alloc, path, project);
+    }
     if let Some(words) = line.strip_prefix("dvc") {
         return perform_line(rt, alloc, words, project);
     }

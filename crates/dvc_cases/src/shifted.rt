@@ -1,13 +1,16 @@
 // A world that changes a file between looking and reading.
-ghost use Rattle.std.specs.Prelude.{◌≡◌, ◌≢◌, ◌≤◌, false, [], length, IfOk};
+ghost use Rattle.std.specs.Prelude.{◌≡◌, ◌≢◌, ◌≤◌, false, [], length, IfOk, IsErrOf};
 ghost use Rattle.dvc_base.specs.Path.{under};
-ghost use Rattle.world_api.specs.History.{HasCause};
+ghost use Rattle.world_api.specs.History.{HasCause, IsCaused};
 ghost use Rattle.world_api.specs.Layout.{lane_path};
+ghost use Rattle.world_api.specs.Calls.{AreNames};
+ghost use Rattle.world_api.specs.declared.files.ListFault.TheVariants.{Failed as Unlisted};
 ghost use Rattle.dvc_cases.specs.Told.{no_faults, nothing_told};
 
 use crate::project::Project;
-use dvc_base::{Failed, Rel, is_same};
-use world_api::{Exit, Files, Ground, Job, Kind, ReadFiles, Shell, World};
+use dvc_base::{Failed, Rel, Texts, is_same};
+use std::alloc::Global;
+use world_api::{Exit, Files, Ground, Job, Kind, ListFault, ReadFiles, Shell, World};
 
 /// What a file's size was, when it was looked at.
 #[derive(Clone, Copy)]
@@ -66,6 +69,14 @@ impl ReadFiles for Shifted {
         }
     }
 
+    // No folder of the project has a name that is read.
+    fn list(&mut self, alloc: Global, _at: &Rel) -> Result<Texts, ListFault>
+        ensures good { IfOk result AreNames }
+        ensures cause { IsCaused no_faults no_faults (IsErrOf result Unlisted) }
+    {
+        Ok(Texts::new(alloc))
+    }
+
     ghost use Rattle.std.proofs.lemmas.Bool.{false≢true};
 
     ghost stands = { λ world told. absurd (false≢true told) };
@@ -74,6 +85,12 @@ impl ReadFiles for Shifted {
 impl Files for Shifted {
     fn clear(&mut self, _at: &Rel) -> Result<(), Failed>
         requires { _at.now ≢ [] }
+        ensures cause { HasCause no_faults no_faults result }
+    {
+        Ok(())
+    }
+
+    fn make_folder(&mut self, _at: &Rel) -> Result<(), Failed>
         ensures cause { HasCause no_faults no_faults result }
     {
         Ok(())

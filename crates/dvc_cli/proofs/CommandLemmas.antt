@@ -9,7 +9,7 @@ use Rattle.std.specs.Option.{option_map_or}
 use Rattle.std.proofs.lemmas.Bool.{cases_Bool, false≢true}
 use Rattle.std.proofs.lemmas.List.{append-nil}
 use Rattle.dvc_base.specs.Fault.{is_one_of, MayBe, IsHonest}
-use Rattle.dvc_base.specs.Answer.{IsAnswer, Gains, fault_in}
+use Rattle.dvc_base.specs.Answer.{IsAnswer, fault_in}
 use Rattle.dvc_base.specs.declared.fault.Fault.{Fault}
 use Rattle.dvc_base.specs.declared.fault.Fault.TheVariants.{BadWords}
 use Rattle.dvc_base.specs.declared.fault.FaultKind.{FaultKind}
@@ -18,23 +18,21 @@ use Rattle.dvc_base.proofs.FaultLemmas.{may_be-wider}
 use Rattle.world_api.specs.Tree.{Tree}
 use Rattle.world_api.specs.Effect.{Effect}
 use Rattle.world_api.specs.History.{Moment, History, Passes}
-use Rattle.world_api.specs.Layout.{dvc_path, lock_path}
 use Rattle.world_api.specs.Outside.{tree_of, jobs_of, WithEffect}
-use Rattle.world_api.proofs.HistoryLemmas.{keeps_paths_itself, passes_same, passes_weaker}
-use Rattle.world_api.proofs.WriteLemmas.{same_at_itself, same_under_itself}
+use Rattle.world_api.proofs.HistoryLemmas.{passes_same, passes_weaker}
 use Rattle.lock_files.specs.Book.{Lock}
-use Rattle.repro_laws.specs.Due.{report, jobs}
-use Rattle.repro_laws.specs.Choices.{due, fault_of}
-use Rattle.repro_laws.specs.Turns.{standing}
+use Rattle.repro_laws.specs.Due.{Due, standing_of, due, fault_of, report, jobs}
+use Rattle.repro_laws.specs.Turns.{state}
 use Rattle.repro_laws.specs.Headline.{LeavesAnew}
-use Rattle.repro_laws.specs.Moments.{is_record, in_turns, InTurns}
-use Rattle.repro_laws.specs.Sound.{lock_of, IsSound, AreReliable, AreHalted, IsReport}
+use Rattle.repro_laws.specs.Moments.{is_own, InTurns}
+use Rattle.repro_laws.specs.Sound.{lock_of, IsSound, AreReliable, AreHalted, IsReport, IsAnswerAt, GainsAt}
 use Rattle.repro_laws.specs.declared.stage.Stage.{Stage}
-use Rattle.repro_laws.specs.declared.stage.Choice.{Choice}
-use Rattle.repro_laws.proofs.SoundLaw.{sound}
+use Rattle.repro_laws.proofs.AllLaws.{sounds}
+use Rattle.repro_laws.proofs.MomentLemmas.{turns_itself}
+use Rattle.repro_core.specs.Turning.{JobsGain, AreTaken}
 use Rattle.dvc_cli.specs.Plan.{AreUsable}
 use Rattle.dvc_cli.specs.Workspace.{stages_in, workspace_fault, Workspace, workspace_by, workspace_of, read_kinds}
-use Rattle.dvc_cli.specs.Command.{is_repro, repro_words, refusal, workspace_due, stages_due, fault_due, choices_due, IsReliable, Reproduces, IsHaltedIn, IsHalted, InWorkspace, InCommand, DoesCommand, Refuses, command_kinds, Answers, PutsReport}
+use Rattle.dvc_cli.specs.Command.{is_repro, repro_words, refusal, workspace_due, stages_due, no_flags, fault_due, turns_due, IsReliable, Reproduces, TakesTurns, IsHaltedIn, IsHalted, InWorkspace, InCommand, DoesCommand, Refuses, command_kinds, Answers, PutsReport}
 use Rattle.dvc_cli.proofs.AnswerLemmas.{words-is_repro, kind_apart, ends_reading, refused_first, none_gained, nothing_told}
 
 pub any_effect : (o : Option Effect) (P : Effect → Type 0) → ((effect : Effect) → P effect) → IfSome o P
@@ -45,22 +43,19 @@ each_effect : (o : Option Effect) (P R : Effect → Type 0) → ((effect : Effec
 each_effect None P R weaker p = tt
 each_effect (Some effect) P R weaker p = weaker effect p
 
--- ---- nothing has happened
+pub at_ok : {A : Type 0} (P : Type 0) (tells : Bool) (r : Result A Fault) → IsTrue tells → OnOk r (IsTrue tells → P) → OnOk r P
+at_ok P tells (Ok done) t p = p t
+at_ok P tells (Err fault) t p = tt
 
--- each moment of the turns may be the start
-in_turns-itself : (effect : Effect) (stages : List Stage) (lock : Lock) (m : Moment) → InTurns effect stages lock m m m
-in_turns-itself effect stages lock m = record {
-  others = keeps_paths_itself (in_turns stages) m;
-  dvc = inl (same_at_itself dvc_path m);
-  same_effect = refl;
-  book = λ digest bytes e. e;
-  ran = record { jobs = []; ran = sym (append-nil m.aside.fixed.ran); some = tt };
-  remembered = inl (same_under_itself lock_path m);
-}
+pub at_err : {A : Type 0} (P : Fault → Type 0) (tells : Bool) (r : Result A Fault) → IsTrue tells → IfErr r (λ fault. IsTrue tells → P fault) → IfErr r P
+at_err P tells (Ok done) t p = tt
+at_err P tells (Err fault) t p = p t
+
+-- ---- nothing has happened
 
 in_workspace-itself : (effect : Effect) (w : Option Workspace) (m : Moment) → InWorkspace effect w m m m
 in_workspace-itself effect None m = refl
-in_workspace-itself effect (Some w) m = in_turns-itself effect w.stages w.lock m
+in_workspace-itself effect (Some w) m = turns_itself no_flags effect w.stages w.lock m m
 
 no_workspace : (fault : Fault) (a : Option Fault) (stages : Option (List Stage)) (lock : Option Lock) → a ≡ Some fault → workspace_by a stages lock ≡ None
 no_workspace fault a stages lock e = rw e refl
@@ -81,17 +76,17 @@ refused_workspace words t fault e =
       | inr fails ↦ other_workspace words t fails
     ]
 
-choices_none : (words : List (List ℕ)) (effect : Effect) (t : Tree) → workspace_due words t ≡ None → choices_due words effect t ≡ []
-choices_none words effect t e = ap (λ x. option_map_or (λ (w : Workspace). due effect w.stages t w.lock) x []) e
+turns_none : (words : List (List ℕ)) (effect : Effect) (t : Tree) → workspace_due words t ≡ None → turns_due words effect t ≡ []
+turns_none words effect t e = ap (λ x. option_map_or (λ (w : Workspace). due no_flags effect w.stages (standing_of t w.lock)) x []) e
 
-no_choices : (words : List (List ℕ)) (effect : Effect) (t : Tree) (fault : Fault) → refusal words t ≡ Some fault → choices_due words effect t ≡ []
-no_choices words effect t fault e = choices_none words effect t (refused_workspace words t fault e)
+no_turns : (words : List (List ℕ)) (effect : Effect) (t : Tree) (fault : Fault) → refusal words t ≡ Some fault → turns_due words effect t ≡ []
+no_turns words effect t fault e = turns_none words effect t (refused_workspace words t fault e)
 
-no_jobs : (words : List (List ℕ)) (effect : Effect) (t : Tree) (fault : Fault) → refusal words t ≡ Some fault → jobs (choices_due words effect t) ≡ []
-no_jobs words effect t fault e = ap jobs (no_choices words effect t fault e)
+no_jobs : (words : List (List ℕ)) (effect : Effect) (t : Tree) (fault : Fault) → refusal words t ≡ Some fault → jobs (turns_due words effect t) ≡ []
+no_jobs words effect t fault e = ap jobs (no_turns words effect t fault e)
 
-no_report : (words : List (List ℕ)) (effect : Effect) (t : Tree) (fault : Fault) → refusal words t ≡ Some fault → report (choices_due words effect t) ≡ []
-no_report words effect t fault e = ap report (no_choices words effect t fault e)
+no_report : (words : List (List ℕ)) (effect : Effect) (t : Tree) (fault : Fault) → refusal words t ≡ Some fault → report (turns_due words effect t) ≡ []
+no_report words effect t fault e = ap report (no_turns words effect t fault e)
 
 some_is_none : (fault : Fault) → Some fault ≡ None → ⊥
 some_is_none fault e = cc
@@ -100,8 +95,9 @@ refused_here : (words : List (List ℕ)) (effect : Effect) (fault : Fault) (h : 
     → IsHalted words effect fault h.present h.present → DoesCommand words effect (Some fault) h h
 refused_here words effect fault h a halted = record {
   headline = λ e. absurd (some_is_none fault e);
-  answer = λ reliable. refused_first fault (refusal words (tree_of h)) (option_map_or (λ (w : Workspace). fault_of effect w.stages (tree_of h) w.lock) (workspace_due words (tree_of h)) None) a;
-  ran = λ reliable. none_gained fault (refusal words (tree_of h)) (jobs_of h) (jobs (choices_due words effect (tree_of h))) a (no_jobs words effect (tree_of h) fault);
+  taken = λ e. absurd (some_is_none fault e);
+  answer = λ reliable. inl (refused_first fault (refusal words (tree_of h)) (option_map_or (λ (w : Workspace). fault_of no_flags effect w.stages (standing_of (tree_of h) w.lock)) (workspace_due words (tree_of h)) None) a);
+  ran = λ reliable. inl (inl (none_gained fault (refusal words (tree_of h)) (jobs_of h) (jobs (turns_due words effect (tree_of h))) a (no_jobs words effect (tree_of h) fault)));
   sound = λ reliable. passes_same (IsSound reliable.book effect) h h refl reliable.sound;
   untouched = λ e. refl;
   halted = halted;
@@ -121,8 +117,8 @@ pub refused_puts : (words : List (List ℕ)) (tells : Bool) (fault : Fault) (old
 refused_puts words tells fault old new taken a = record {
   quiet = λ told refused. refl;
   report = λ told. any_effect old.present.aside.fixed.effect
-      (λ effect. IsReliable effect old.present new.present → Gains (Some fault) taken (report (choices_due words effect (tree_of old))) taken)
-      (λ effect reliable. none_gained fault (refusal words (tree_of old)) taken (report (choices_due words effect (tree_of old))) (a told) (no_report words effect (tree_of old) fault));
+      (λ effect. IsReliable effect old.present new.present → GainsAt (tree_of new) (Some fault) taken (report (turns_due words effect (tree_of old))) taken)
+      (λ effect reliable. inl (none_gained fault (refusal words (tree_of old)) taken (report (turns_due words effect (tree_of old))) (a told) (no_report words effect (tree_of old) fault)));
   lines = record { stages = stages_due words (tree_of old); theirs = λ told. refl; report = nothing_told (stages_due words (tree_of old)) fault taken };
 }
 
@@ -180,24 +176,27 @@ pub record IsWorkspaceOf (words : List (List ℕ)) (t : Tree) (stages : List Sta
   pub remembered : lock_of t ≡ Some lock
 
 pub record Turned {A : Type 0} (effect : Effect) (stages : List Stage) (lock new_lock : Lock) (r : Result A Fault) (old new : History) : Type 0 where
-  pub headline : OnOk r (AreReliable effect stages lock old.present new.present → LeavesAnew is_record effect stages (standing (tree_of old) lock) (standing (tree_of new) new_lock))
-  pub answer : AreReliable effect stages lock old.present new.present → IsAnswer (fault_in r) (fault_of effect stages (tree_of old) lock)
-  pub ran : AreReliable effect stages lock old.present new.present → Gains (fault_in r) (jobs_of old) (jobs (due effect stages (tree_of old) lock)) (jobs_of new)
-  pub untouched : due effect stages (tree_of old) lock ≡ [] → new ≡ old
-  pub halted : IfErr r (λ fault. AreHalted effect stages lock fault old.present new.present)
-  pub moments : Passes (InTurns effect stages lock old.present new.present) old new
+  pub headline : OnOk r (AreReliable effect stages lock old.present new.present → LeavesAnew is_own effect stages (state (tree_of old) lock) (state (tree_of new) new_lock))
+  pub taken : OnOk r (AreTaken no_flags effect stages lock new_lock old.present new.present)
+  pub answer : AreReliable effect stages lock old.present new.present → IsAnswerAt (tree_of new) (fault_in r) (fault_of no_flags effect stages (standing_of (tree_of old) lock))
+  pub ran : AreReliable effect stages lock old.present new.present → JobsGain (tree_of new) (fault_in r) (jobs_of old) (jobs (due no_flags effect stages (standing_of (tree_of old) lock))) (jobs_of new)
+  pub untouched : due no_flags effect stages (standing_of (tree_of old) lock) ≡ [] → new ≡ old
+  pub halted : IfErr r (λ fault. AreHalted no_flags effect stages lock fault old.present new.present)
+  pub moments : Passes (InTurns no_flags effect stages lock old.present new.present) old new
 
 pub turned_at : {A : Type 0} (o : Option Effect) (stages : List Stage) (lock new_lock : Lock) (r : Result A Fault) (old new : History)
-    → OnOk r (IfSome o (λ effect. AreReliable effect stages lock old.present new.present → LeavesAnew is_record effect stages (standing (tree_of old) lock) (standing (tree_of new) new_lock)))
-    → IfSome o (λ effect. AreReliable effect stages lock old.present new.present → IsAnswer (fault_in r) (fault_of effect stages (tree_of old) lock))
-    → IfSome o (λ effect. AreReliable effect stages lock old.present new.present → Gains (fault_in r) (jobs_of old) (jobs (due effect stages (tree_of old) lock)) (jobs_of new))
-    → IfSome o (λ effect. due effect stages (tree_of old) lock ≡ [] → new ≡ old)
-    → IfErr r (λ fault. IfSome o (λ effect. AreHalted effect stages lock fault old.present new.present))
-    → IfSome o (λ effect. Passes (InTurns effect stages lock old.present new.present) old new)
+    → OnOk r (IfSome o (λ effect. AreReliable effect stages lock old.present new.present → LeavesAnew is_own effect stages (state (tree_of old) lock) (state (tree_of new) new_lock)))
+    → OnOk r (IfSome o (λ effect. AreTaken no_flags effect stages lock new_lock old.present new.present))
+    → IfSome o (λ effect. AreReliable effect stages lock old.present new.present → IsAnswerAt (tree_of new) (fault_in r) (fault_of no_flags effect stages (standing_of (tree_of old) lock)))
+    → IfSome o (λ effect. AreReliable effect stages lock old.present new.present → JobsGain (tree_of new) (fault_in r) (jobs_of old) (jobs (due no_flags effect stages (standing_of (tree_of old) lock))) (jobs_of new))
+    → IfSome o (λ effect. due no_flags effect stages (standing_of (tree_of old) lock) ≡ [] → new ≡ old)
+    → IfErr r (λ fault. IfSome o (λ effect. AreHalted no_flags effect stages lock fault old.present new.present))
+    → IfSome o (λ effect. Passes (InTurns no_flags effect stages lock old.present new.present) old new)
     → IfSome o (λ effect. Turned effect stages lock new_lock r old new)
-turned_at None stages lock new_lock r old new headline answer ran untouched halted moments = tt
-turned_at (Some effect) stages lock new_lock r old new headline answer ran untouched halted moments = record {
+turned_at None stages lock new_lock r old new headline taken answer ran untouched halted moments = tt
+turned_at (Some effect) stages lock new_lock r old new headline taken answer ran untouched halted moments = record {
   headline = headline;
+  taken = taken;
   answer = answer;
   ran = ran;
   untouched = untouched;
@@ -216,15 +215,15 @@ stages_due-is : (words : List (List ℕ)) (t : Tree) (stages : List Stage) (lock
 stages_due-is words t stages lock w = rw (workspace_due-is words t stages lock w) refl
 
 fault_due-is : (words : List (List ℕ)) (effect : Effect) (t : Tree) (stages : List Stage) (lock : Lock) → IsWorkspaceOf words t stages lock
-    → fault_due words effect t ≡ fault_of effect stages t lock
+    → fault_due words effect t ≡ fault_of no_flags effect stages (standing_of t lock)
 fault_due-is words effect t stages lock w = rw (refusal-none words t stages lock w, workspace_due-is words t stages lock w) refl
 
-choices_due-is : (words : List (List ℕ)) (effect : Effect) (t : Tree) (stages : List Stage) (lock : Lock) → IsWorkspaceOf words t stages lock
-    → choices_due words effect t ≡ due effect stages t lock
-choices_due-is words effect t stages lock w = rw (workspace_due-is words t stages lock w) refl
+turns_due-is : (words : List (List ℕ)) (effect : Effect) (t : Tree) (stages : List Stage) (lock : Lock) → IsWorkspaceOf words t stages lock
+    → turns_due words effect t ≡ due no_flags effect stages (standing_of t lock)
+turns_due-is words effect t stages lock w = rw (workspace_due-is words t stages lock w) refl
 
 in_command : (words : List (List ℕ)) (effect : Effect) (stages : List Stage) (lock : Lock) (m end n : Moment) → IsWorkspaceOf words m.tree stages lock
-    → InTurns effect stages lock m end n → InCommand words effect m end n
+    → InTurns no_flags effect stages lock m end n → InCommand words effect m end n
 in_command words effect stages lock m end n w h =
     subst (λ (x : Option Workspace). InWorkspace effect x m end n) (sym (workspace_due-is words m.tree stages lock w)) h
 
@@ -238,14 +237,13 @@ safe_of effect stages lock m n p l reliable = record {
 
 reproduces : {A : Type 0} (r : Result A Fault) (effect : Effect) (stages : List Stage) (lock new_lock : Lock) (m n : Moment) → AreUsable stages → stages_in m.tree ≡ Some stages
     → lock_of m.tree ≡ Some lock → OnOk r (lock_of n.tree ≡ Some new_lock)
-    → OnOk r (AreReliable effect stages lock m n → LeavesAnew is_record effect stages (standing m.tree lock) (standing n.tree new_lock))
+    → OnOk r (AreReliable effect stages lock m n → LeavesAnew is_own effect stages (state m.tree lock) (state n.tree new_lock))
     → fault_in r ≡ None → IsReliable effect m n → Reproduces effect m n
 reproduces (Err fault) effect stages lock new_lock m n u p l remembers anew e reliable = absurd (some_is_none fault e)
 reproduces (Ok done) effect stages lock new_lock m n u p l remembers anew e reliable = record {
   stages = stages;
   plan = p;
-  ordered = stages;
-  in_order = u.in_order;
+  in_order = u.planned.order;
   old_lock = lock;
   remembered = l;
   new_lock = new_lock;
@@ -253,8 +251,22 @@ reproduces (Ok done) effect stages lock new_lock m n u p l remembers anew e reli
   anew = anew (safe_of effect stages lock m n p l reliable);
 }
 
+takes : {A : Type 0} (r : Result A Fault) (effect : Effect) (stages : List Stage) (lock new_lock : Lock) (m n : Moment) → stages_in m.tree ≡ Some stages
+    → lock_of m.tree ≡ Some lock → OnOk r (lock_of n.tree ≡ Some new_lock) → OnOk r (AreTaken no_flags effect stages lock new_lock m n)
+    → fault_in r ≡ None → TakesTurns effect m n
+takes (Err fault) effect stages lock new_lock m n p l remembers taken e = absurd (some_is_none fault e)
+takes (Ok done) effect stages lock new_lock m n p l remembers taken e = record {
+  stages = stages;
+  plan = p;
+  old_lock = lock;
+  remembered = l;
+  new_lock = new_lock;
+  remembers = remembers;
+  taken = taken;
+}
+
 halts : {A : Type 0} (r : Result A Fault) (words : List (List ℕ)) (effect : Effect) (stages : List Stage) (lock : Lock) (m n : Moment) → IsWorkspaceOf words m.tree stages lock
-    → IfErr r (λ fault. AreHalted effect stages lock fault m n) → IfSome (fault_in r) (λ fault. IsHalted words effect fault m n)
+    → IfErr r (λ fault. AreHalted no_flags effect stages lock fault m n) → IfSome (fault_in r) (λ fault. IsHalted words effect fault m n)
 halts (Ok done) words effect stages lock m n w halted = tt
 halts (Err fault) words effect stages lock m n w halted =
     subst (λ (x : Option Workspace). IsHaltedIn effect x fault m n) (sym (workspace_due-is words m.tree stages lock w)) (inr halted)
@@ -264,20 +276,21 @@ turned_here : {A : Type 0} (r : Result A Fault) (words : List (List ℕ)) (effec
     → Turned effect stages lock new_lock r old new → DoesCommand words effect (fault_in r) old new
 turned_here r words effect stages lock new_lock old new u w remembers turned =
     let t = tree_of old in
-    let choices = choices_due-is words effect t stages lock w in
+    let choices = turns_due-is words effect t stages lock w in
     let safe : IsReliable effect old.present new.present → AreReliable effect stages lock old.present new.present =
     safe_of effect stages lock old.present new.present w.planned w.remembered in
     record {
       headline = reproduces r effect stages lock new_lock old.present new.present u w.planned w.remembered remembers turned.headline;
-      answer = λ reliable. subst (IsAnswer (fault_in r)) (sym (fault_due-is words effect t stages lock w)) (turned.answer (safe reliable));
-      ran = λ reliable. subst (λ (cs : List (Stage × Choice)). Gains (fault_in r) (jobs_of old) (jobs cs) (jobs_of new)) (sym choices) (turned.ran (safe reliable));
-      sound = λ reliable. passes_weaker (InTurns effect stages lock old.present new.present) (IsSound reliable.book effect) old new
-          (λ n. sound reliable.book effect stages lock old.present new.present n (u.planned t).ready u.outside w.remembered reliable.sound (reliable.met stages w.planned)) turned.moments;
+      taken = takes r effect stages lock new_lock old.present new.present w.planned w.remembered remembers turned.taken;
+      answer = λ reliable. subst (IsAnswerAt (tree_of new) (fault_in r)) (sym (fault_due-is words effect t stages lock w)) (turned.answer (safe reliable));
+      ran = λ reliable. subst (λ (ds : List Due). JobsGain (tree_of new) (fault_in r) (jobs_of old) (jobs ds) (jobs_of new)) (sym choices) (turned.ran (safe reliable));
+      sound = λ reliable. passes_weaker (InTurns no_flags effect stages lock old.present new.present) (IsSound reliable.book effect) old new
+          (λ n. sounds no_flags reliable.book effect stages lock old.present new.present n refl u.planned u.outside w.remembered reliable.sound (reliable.met stages w.planned)) turned.moments;
       untouched = λ e. turned.untouched (sym choices ∙ e);
       halted = halts r words effect stages lock old.present new.present w turned.halted;
-      moments = passes_weaker (InTurns effect stages lock old.present new.present) (InCommand words effect old.present new.present) old new
+      moments = passes_weaker (InTurns no_flags effect stages lock old.present new.present) (InCommand words effect old.present new.present) old new
           (λ n. in_command words effect stages lock old.present new.present n w) turned.moments;
-      book = turned.moments.now.book;
+      book = turned.moments.now.ran.aside.book;
     }
 
 pub turned_does : {A : Type 0} (r : Result A Fault) (words : List (List ℕ)) (stages : List Stage) (lock new_lock : Lock) (start old new : History) → old ≡ start
@@ -299,16 +312,16 @@ turned_refuses words got stages lock start old new same w some =
 
 pub turned_puts : (words : List (List ℕ)) (tells : Bool) (got : Option Fault) (stages : List Stage) (lock : Lock) (start old new : History) (before taken : List ℕ)
     → (IsTrue tells → old ≡ start) → (IsTrue tells → IsWorkspaceOf words (tree_of old) stages lock)
-    → WithEffect tells old (λ effect. AreReliable effect stages lock old.present new.present → Gains got before (report (due effect stages (tree_of old) lock)) taken)
+    → WithEffect tells old (λ effect. AreReliable effect stages lock old.present new.present → GainsAt (tree_of new) got before (report (due no_flags effect stages (standing_of (tree_of old) lock))) taken)
     → IsReport stages got before taken → PutsReport words tells got start new before taken
 turned_puts words tells got stages lock start old new before taken same w gains lines = record {
   quiet = λ told some. absurd (not_refused words (tree_of old) stages lock (w told) (subst (λ (h : History). IsSome (refusal words (tree_of h))) (sym (same told)) some));
   report = λ told.
-      subst (λ (h : History). IfSome h.present.aside.fixed.effect (λ effect. IsReliable effect h.present new.present → Gains got before (report (choices_due words effect (tree_of h))) taken)) (same told)
+      subst (λ (h : History). IfSome h.present.aside.fixed.effect (λ effect. IsReliable effect h.present new.present → GainsAt (tree_of new) got before (report (turns_due words effect (tree_of h))) taken)) (same told)
       (each_effect old.present.aside.fixed.effect
-      (λ effect. AreReliable effect stages lock old.present new.present → Gains got before (report (due effect stages (tree_of old) lock)) taken)
-      (λ effect. IsReliable effect old.present new.present → Gains got before (report (choices_due words effect (tree_of old))) taken)
-      (λ effect safely reliable. subst (λ (cs : List (Stage × Choice)). Gains got before (report cs) taken) (sym (choices_due-is words effect (tree_of old) stages lock (w told)))
+      (λ effect. AreReliable effect stages lock old.present new.present → GainsAt (tree_of new) got before (report (due no_flags effect stages (standing_of (tree_of old) lock))) taken)
+      (λ effect. IsReliable effect old.present new.present → GainsAt (tree_of new) got before (report (turns_due words effect (tree_of old))) taken)
+      (λ effect safely reliable. subst (λ (ds : List Due). GainsAt (tree_of new) got before (report ds) taken) (sym (turns_due-is words effect (tree_of old) stages lock (w told)))
       (safely (safe_of effect stages lock old.present new.present (w told).planned (w told).remembered reliable))) (gains told));
   lines = record {
     stages = stages;

@@ -12,20 +12,20 @@ use Rattle.yaml_print.proofs.ReadSound.{read_printable}
 use Rattle.yaml_print.proofs.SoundLemmas.{sound_null}
 use Rattle.world_api.specs.Tree.{Tree, item_at}
 use Rattle.world_api.specs.Effect.{Effect}
-use Rattle.world_api.specs.History.{Moment}
+use Rattle.world_api.specs.History.{Moment, Book}
 use Rattle.world_api.specs.Layout.{yaml_path}
 use Rattle.lock_files.specs.declared.entry.Entry.{Entry}
 use Rattle.lock_files.specs.Book.{Lock}
-use Rattle.repro_laws.specs.Book.{Book}
 use Rattle.repro_laws.specs.Lock.{IsTruthful}
 use Rattle.repro_laws.specs.Sound.{lock_by, lock_of, IsSound}
 use Rattle.repro_laws.specs.declared.stage.Stage.{Stage}
-use Rattle.repro_laws.proofs.SoundLaw.{sound, stops}
+use Rattle.repro_laws.proofs.AllLaws.{sounds}
+use Rattle.repro_laws.proofs.StopLaw.{stops}
 use Rattle.dvc_cli.specs.Plan.{plan_of, AreUsable}
 use Rattle.dvc_cli.specs.Read.{text_at, node_or, root_of}
 use Rattle.dvc_cli.specs.Workspace.{plan_by_root, stages_in, workspace_fault, Workspace, workspace_by, workspace_of}
-use Rattle.dvc_cli.specs.Command.{is_repro, workspace_due, InWorkspace}
-use Rattle.dvc_cli.specs.Life.{IsFresh, IsEdit, IsStop, IsMet, fresh, edited, commanded, stopped, LivesAreSound}
+use Rattle.dvc_cli.specs.Command.{is_repro, workspace_due, no_flags, InWorkspace}
+use Rattle.dvc_cli.specs.Life.{IsFresh, IsEdit, IsStop, IsMet, fresh, edited, commanded, stopped, LivesAreSound, ToldBooksDo}
 use Rattle.dvc_cli.proofs.PlanLemmas.{plan_usable}
 
 -- ---- the stages of a workspace are usable
@@ -128,7 +128,7 @@ work_sound book effect words None m end n e s met h = subst (IsSound book effect
 work_sound book effect words (Some w) m end n e s met h =
     let is = work_due_parts words m.tree w e in
     let usable = stages_usable m.tree w.stages is.plan in
-    sound book effect w.stages w.lock m end n (usable.planned m.tree).ready usable.outside is.remembered s (met.met w.stages is.plan) h
+    sounds no_flags book effect w.stages w.lock m end n refl usable.planned usable.outside is.remembered s (met.met w.stages is.plan) h
 
 pub lives : LivesAreSound
 lives book effect n (fresh _ h) = fresh_sound book effect n h
@@ -136,3 +136,8 @@ lives book effect n (edited m _ r h) = edit_sound book effect m n (lives book ef
 lives book effect n (commanded words m end _ r met h) =
     work_sound book effect words (workspace_due words m.tree) m end n refl (lives book effect m r) met h
 lives book effect n (stopped m _ r h) = stop_sound book effect m n (lives book effect m r) h
+
+-- ---- the book that a world tells
+
+pub told_books : ToldBooksDo
+told_books effect m n s covers = record { book = n.aside.book; sound = s; met = covers.after }

@@ -1,13 +1,14 @@
 -- What is so of the stages of a `dvc.yaml` in which the schema refuses nothing.
 --     IsWritten s               the stage has a command, and no dependency stands twice
 --     good_stages               such are the stages of a file
+--     few_stages                and there are few of them
 --     stage_names               no two of them share a name, where no two keys of a mapping are one
 use Rattle.std.proofs.Common.{◌≡◌, ℕ, zero, suc, ◌+◌, ◌<◌, ◌≤◌, Bool, true, false, not, ◌&&◌, ◌||◌, ◌==◌, List, [], ◌∷◌, ◌++◌, length, take, map, refl, sym, ap, ◌∙◌, subst, arith, bytes_eq, codes, cond, inl, inr, Option, Some, None, Result, Ok, Err, nat_lt}
 use Rattle.std.specs.Prelude.{fold}
 use Rattle.std.specs.Option.{option_or}
 use Rattle.std.specs.List.{AllByRecursion, list_any}
-use Rattle.std.proofs.lemmas.Bool.{and_parts, and_from, or_parts, both_ways, false≢true, false_from_ne_true, not-true, cases_Bool, cond-true, cond-false, ltb-false}
-use Rattle.std.proofs.lemmas.List.{take_all}
+use Rattle.std.proofs.lemmas.Bool.{and_parts, and_from, or_from, both_ways, false≢true, false_from_ne_true, not-true, cases_Bool, cond-true, cond-false, ltb-false}
+use Rattle.std.proofs.lemmas.List.{take_all, length-map}
 use Rattle.std.proofs.lemmas.List.Folds.{list_any-append}
 use Rattle.std.proofs.lemmas.Slice.Eq.{bytes_eq-Decides}
 use Rattle.dvc_base.specs.declared.node.Node.{Node, out-Node}
@@ -28,7 +29,7 @@ use Rattle.template_expand.specs.declared.fault.ExpandFault.{ExpandFault}
 use Rattle.template_expand.specs.declared.fault.ExpandFault.TheVariants as e
 use Rattle.template_expand.specs.declared.stage.Stage.{Stage as Written}
 use Rattle.repro_laws.specs.Lock.{is_among}
-use Rattle.dvc_cli.proofs.NamesLemmas.{are_distinct, text_swap}
+use Rattle.dvc_cli.proofs.DistinctLemmas.{are_distinct, text_swap, distinct-more}
 
 -- ---- refusals
 
@@ -94,25 +95,6 @@ good_commands name (p ∷ pairs) h has =
     ]
 
 -- ---- texts that stand once
-
-or_last : (a b : Bool) → (a || (b || false)) ≡ (a || b)
-or_last a true = refl
-or_last a false = refl
-
-among-more : (texts : List (List ℕ)) (next text : List ℕ) → is_among (texts ++ next ∷ []) text ≡ (is_among texts text || bytes_eq next text)
-among-more texts next text = list_any-append (λ t. bytes_eq t text) texts (next ∷ []) ∙ or_last (is_among texts text) (bytes_eq next text)
-
-neither : (a b : Bool) → a ≡ false → b ≡ false → (a || b) ≡ false
-neither a b h k = ap (λ (x : Bool). x || b) h ∙ k
-
-distinct-more : (texts : List (List ℕ)) (next : List ℕ) → are_distinct texts ≡ true → is_among texts next ≡ false → are_distinct (texts ++ next ∷ []) ≡ true
-distinct-more [] next h n = refl
-distinct-more (text ∷ texts) next h n =
-    let a = and_parts (not (is_among texts text)) (are_distinct texts) h in
-    let b = or_parts (bytes_eq text next) (is_among texts next) n in
-    let first : is_among (texts ++ next ∷ []) text ≡ false =
-    among-more texts next text ∙ neither (is_among texts text) (bytes_eq next text) (not-true (is_among texts text) a.0) (text_swap next text ∙ b.0) in
-    and_from (not (is_among (texts ++ next ∷ []) text)) (are_distinct (texts ++ next ∷ [])) (ap not first) (distinct-more texts next a.1 b.1)
 
 met_swap : (text : List ℕ) (texts : List (List ℕ)) → list_any (bytes_eq text) texts ≡ is_among texts text
 met_swap text [] = refl
@@ -228,6 +210,36 @@ good_stages root ss h =
     let said = said_by (fault_in (out-Node root)) (stages_in (out-Node root)) ss h in
     subst (AllByRecursion IsWritten) (sym said.same) (good_layer (out-Node root) said.free)
 
+-- ---- how many
+
+few_limited : (limit : ℕ) (ps : List Pair) → limited_fault limit ps ≡ None → length (map stage_of ps) ≤ limit
+few_limited limit ps h =
+    let parts = none_first (first_in stage_fault (take limit ps)) (unless (not (nat_lt limit (length ps))) (e.TooMany (limit + 1))) h in
+    let short = within_limit limit (length ps) (none_unless (not (nat_lt limit (length ps))) (e.TooMany (limit + 1)) parts.1) in
+    subst (λ (n : ℕ). n ≤ limit) (sym (length-map ps stage_of)) short
+
+few_file : (pairs : List Pair) → file_fault pairs ≡ None → length (stages_in (Node-F.Pairs pairs)) ≤ limit_of Stages
+few_file pairs h =
+    let vars = unless (length (items_of (value_at (codes "vars") pairs)) == 0) e.NotBuilt in
+    let stages = pairs_of (value_at (codes "stages") pairs) in
+    let a = none_first (first_in top_fault pairs) (option_or vars (stages_fault stages)) h in
+    let b = none_first vars (stages_fault stages) a.1 in
+    few_limited (limit_of Stages) stages b.1
+
+few_layer : (v : Layer) → fault_in v ≡ None → length (stages_in v) ≤ limit_of Stages
+few_layer Node-F.Null h = omega arith
+few_layer (Node-F.Pairs pairs) h = few_file pairs h
+few_layer (Node-F.Bool b) h = absurd (some_fault (schema_at []) h)
+few_layer (Node-F.Whole value t) h = absurd (some_fault (schema_at []) h)
+few_layer (Node-F.Decimal t) h = absurd (some_fault (schema_at []) h)
+few_layer (Node-F.Text t) h = absurd (some_fault (schema_at []) h)
+few_layer (Node-F.Items items) h = absurd (some_fault (schema_at []) h)
+
+pub few_stages : (root : Node) (ss : List Written) → expansion root ≡ Ok ss → length ss ≤ limit_of Stages
+few_stages root ss h =
+    let said = said_by (fault_in (out-Node root)) (stages_in (out-Node root)) ss h in
+    subst (λ (xs : List Written). length xs ≤ limit_of Stages) (sym said.same) (few_layer (out-Node root) said.free)
+
 -- ---- names
 
 -- no key stands twice
@@ -282,7 +294,7 @@ none_later k found (p ∷ ps) h has =
     both_ways (part.has_key (key_of p) found) (not-true (part.has_key (key_of p) found) parts.0) (ap (λ (x : List ℕ). part.has_key x found) same ∙ has)) in
     let more : part.has_key k (found ++ p ∷ []) ≡ true =
     list_any-append (λ q. bytes_eq (key_of q) k) found (p ∷ []) ∙ ap (λ (b : Bool). b || part.has_key k (p ∷ [])) has in
-    neither (bytes_eq (key_of p) k) (is_among (map key_of ps) k) other (none_later k (found ++ p ∷ []) ps parts.1 more)
+    or_from (bytes_eq (key_of p) k) (is_among (map key_of ps) k) other (none_later k (found ++ p ∷ []) ps parts.1 more)
 
 ends : (a : Bool) → (a || (true || false)) ≡ true
 ends true = refl

@@ -1,351 +1,327 @@
--- The stages of a plan can have their turns in the order in which they are written.
---     ready, kept, outside, recordable, ordered      what is so of a stage at the root, field by field
---     usable                                         all of it, of the stages of a plan
-use Rattle.std.proofs.Common.{◌≡◌, ℕ, ◌<◌, Bool, true, false, not, ◌&&◌, ◌||◌, ◌==◌, List, [], ◌∷◌, ◌++◌, length, map, refl, sym, ap, ◌∙◌, arith, bytes_eq, codes, Some, Result, Ok, Err, is_ok, option_map, option_and_then}
-use Rattle.std.specs.List.{AllByRecursion, list_all, list_any, flat_map}
-use Rattle.std.proofs.lemmas.Bool.{and_parts, and_from, and_left, and_right, or_parts, or_from, cond-false, both_ways, false≢true, false_from_ne_true, not-true, not_from_false, ne_eqb, eqb-true}
-use Rattle.std.proofs.lemmas.Slice.Eq.{bytes_eq-Decides}
+-- The stages of a plan are usable, whatever stands in the tree.
+--     outs_each, reads_each     what holds of each path of a written stage holds of those of the stage that has a turn
+--     is_stage, kept, outside   what is asked of one stage
+--     names_from                no two names are one
+--     any_planned, marked       the outputs of the plan are those of all written stages, and so dependencies are marked
+--     ordered                   what a stage reads overlaps no output of its own or of a later one
+--     usable                    all that is asked of the stages of a plan
+use Rattle.std.proofs.Common.{◌≡◌, ℕ, ◌<◌, Bool, true, false, not, ◌&&◌, ◌||◌, ◌==◌, List, [], ◌∷◌, length, map, refl, sym, ap, ◌∙◌, arith, bytes_eq, Option, Some, None, slice_get}
+use Rattle.std.specs.List.{AllByRecursion, list_any, flat_map, cons_option}
+use Rattle.std.proofs.lemmas.Bool.{and_from, and_parts, or_parts, or_from, both_ways, false_from_ne_true, not_from_false, not-true, ne_eqb, false≢true, or_left, or_right, eq-eqb}
 use Rattle.std.proofs.lemmas.List.Folds.{list_any-append}
-use Rattle.dvc_base.specs.Path.{Path, under, overlap, path_text}
-use Rattle.dvc_base.specs.Join.{join}
-use Rattle.dvc_base.specs.declared.path.PathFault.{PathFault}
-use Rattle.dvc_base.proofs.PathLemmas.{under-refl}
-use Rattle.world_api.specs.Effect.{path_or_root, path_from, out_paths, is_in_any}
-use Rattle.world_api.specs.Calls.{is_path, is_apart, are_apart}
-use Rattle.world_api.specs.Layout.{dvc_path, lock_path, tmp_path, yaml_path}
-use Rattle.lock_files.specs.Order.{is_rising}
-use Rattle.repro_laws.specs.Stage.{in_order, job_of, dep_paths, stage_outs, is_above, IsReady}
-use Rattle.repro_laws.specs.Order.{first_free, order_of, order}
+use Rattle.std.proofs.lemmas.Slice.Eq.{bytes_eq-Decides}
+use Rattle.dvc_base.specs.Path.{Path, under, overlap, is_within}
+use Rattle.dvc_base.proofs.PathLemmas.{under-refl, under-overlap}
+use Rattle.world_api.specs.Calls.{is_apart, are_apart}
+use Rattle.world_api.specs.Effect.{path_from}
+use Rattle.world_api.specs.Layout.{dvc_path, lock_path, yaml_path}
+use Rattle.lock_files.specs.Order.{in_order}
+use Rattle.stage_order.specs.Closure.{StandsBehind}
+use Rattle.stage_order.specs.Order.{is_in, order}
+use Rattle.stage_order.proofs.ClosureLemmas.{behind_order}
+use Rattle.template_expand.specs.declared.stage.Out.{Out as WrittenOut}
+use Rattle.template_expand.specs.declared.stage.Stage.{Stage as Written}
+use Rattle.stage_graph.specs.Cycle.{all_above}
+use Rattle.stage_graph.specs.Paths.{needs, makes, is_above, stage_outs}
+use Rattle.repro_laws.specs.Stage.{dep_path, out_path, dep_text, out_text, read_paths, stage_outs as made_paths, Names, IsStage}
 use Rattle.repro_laws.specs.Lock.{is_among}
-use Rattle.repro_laws.specs.Headline.{is_ordered, have_names, IsKept}
-use Rattle.repro_laws.specs.Moments.{is_record}
-use Rattle.repro_laws.specs.Sound.{IsRecordable, IsOutside}
+use Rattle.repro_laws.specs.Headline.{is_ordered, have_names, IsApart, IsKept, AreMarked}
+use Rattle.repro_laws.specs.Moments.{is_own}
+use Rattle.repro_laws.specs.Sound.{IsOutside}
+use Rattle.repro_laws.specs.declared.stage.Dep.{Dep}
 use Rattle.repro_laws.specs.declared.stage.Stage.{Stage}
-use Rattle.repro_laws.proofs.OrderLemmas.{all_in_order}
-use Rattle.repro_laws.proofs.RoadLemmas.{apart_root, apart_head, root_outside}
-use Rattle.repro_laws.proofs.PlanLaw.{apart_rest, plan_at_root}
-use Rattle.dvc_cli.specs.Plan.{is_alone, kept_from_deps, kept_from_outs, is_at_root, is_in_order_as_written, AreUsable}
-use Rattle.dvc_cli.proofs.NamesLemmas.{are_distinct, single, alone_single, at_root_parts}
-use Rattle.dvc_cli.proofs.RisingLemmas.{rising, once_in_order}
+use Rattle.repro_laws.proofs.ListLemmas.{each_from, each_both, each_first, each_all, each_mapped, each_map, each_false, none_true, each_in_order}
+use Rattle.repro_laws.proofs.RefusalLemmas.{any_in_order}
+use Rattle.dvc_cli.specs.Plan.{dep_of, out_of, looks_of, outs_of, stage_of, all_outs, stages_at, planned_at, planned, AreUsable}
+use Rattle.dvc_cli.proofs.DistinctLemmas.{are_distinct, text_swap, rising}
+use Rattle.dvc_cli.proofs.PairLemmas.{AllPairs, Between, AreOnce, pairs_from, pairs_mapped, pairs_map, pairs_in_order, pairs_flat, pairs_of_flat, each_flat, between_turned, at_place, each_picked, pairs_picked, any_picked}
+use Rattle.dvc_cli.proofs.ClearLemmas.{IsFar, IsClear, AreFree, AreClear}
+use Rattle.dvc_cli.proofs.TurnLemmas.{all_placed, once_placed, none_above}
 
--- ---- what each of some texts passes, each of them in order passes
+-- ---- the paths of a stage, in order
 
-each_passes : (p : List ℕ → Bool) (texts : List (List ℕ)) → list_all p texts ≡ true → AllByRecursion (λ passed. passed ≡ true) (map p texts)
-each_passes p [] h = tt
-each_passes p (text ∷ texts) h = let parts = and_parts (p text) (list_all p texts) h in (parts.0, each_passes p texts parts.1)
+pub outs_each : (outs : List Path) (P : Path → Type 0) (s : Written) → AllByRecursion P (stage_outs s) → AllByRecursion P (made_paths (stage_of outs s))
+outs_each outs P s h =
+    each_map out_path P (in_order out_text (outs_of s))
+    (each_in_order out_text (λ o. P o.path) (outs_of s)
+    (each_map (out_of s.dir) (λ o. P o.path) s.outs (each_mapped (λ (out : WrittenOut). path_from s.dir out.path) P s.outs h)))
 
-all_pass : (p : List ℕ → Bool) (texts : List (List ℕ)) → AllByRecursion (λ passed. passed ≡ true) (map p texts) → list_all p texts ≡ true
-all_pass p [] h = refl
-all_pass p (text ∷ texts) h = and_from (p text) (list_all p texts) h.0 (all_pass p texts h.1)
+pub reads_each : (outs : List Path) (P : Path → Type 0) (s : Written) → AllByRecursion P (map (path_from s.dir) s.deps) → AllByRecursion P (read_paths (stage_of outs s))
+reads_each outs P s h =
+    each_all P (map dep_path (stage_of outs s).deps) [] (each_map dep_path P (in_order dep_text (looks_of outs s))
+    (each_in_order dep_text (λ d. P d.path) (looks_of outs s)
+    (each_map (dep_of outs s.dir) (λ d. P d.path) s.deps (each_mapped (path_from s.dir) P s.deps h)))) tt
 
-passes_in_order : (p : List ℕ → Bool) (texts : List (List ℕ)) → list_all p texts ≡ true → list_all p (in_order texts) ≡ true
-passes_in_order p texts h = all_pass p (in_order texts) (all_in_order p (λ passed. passed ≡ true) texts (each_passes p texts h))
+-- ---- paths that are apart
 
--- ---- paths that are alone
+free_turned : (p q : Path) → AreFree p q → AreFree q p
+free_turned p q h = let parts = or_parts (under p q) (under q p) h in or_from (under q p) (under p q) parts.1 parts.0
 
--- what is known of one: it has one component, and is apart from those that are kept
-pub record IsAlone (kept : List Path) (p : Path) : Type 0 where
-  one : (length p == 1) ≡ true
-  apart : list_any (overlap p) kept ≡ false
+-- it isn't the root
+abbrev HasPart : Path → Type 0
+HasPart p = (length p == 0) ≡ false
 
-alone_parts : (kept : List Path) (p : Path) → is_alone kept p ≡ true → IsAlone kept p
-alone_parts kept p h =
-    let parts = and_parts (length p == 1) (not (list_any (overlap p) kept)) h in
-    record { one = parts.0; apart = not-true (list_any (overlap p) kept) parts.1 }
+is_apart_from : (p : Path) (ps : List Path) → HasPart p → AllByRecursion (AreFree p) ps → is_apart p ps ≡ true
+is_apart_from p [] some h = not_from_false (length p == 0) some
+is_apart_from p (q ∷ ps) some h = and_from (not (overlap p q)) (is_apart p ps) (not_from_false (overlap p q) h.0) (is_apart_from p ps some h.1)
 
-all_alone : (kept ps : List Path) → list_all (is_alone kept) ps ≡ true → AllByRecursion (IsAlone kept) ps
-all_alone kept [] h = tt
-all_alone kept (p ∷ ps) h =
-    let parts = and_parts (is_alone kept p) (list_all (is_alone kept) ps) h in
-    (alone_parts kept p parts.0, all_alone kept ps parts.1)
+apart_from : (ps : List Path) → AllByRecursion HasPart ps → AllPairs AreFree ps → are_apart ps ≡ true
+apart_from [] some h = refl
+apart_from (p ∷ ps) some h = and_from (is_apart p ps) (are_apart ps) (is_apart_from p ps some.0 h.0) (apart_from ps some.1 h.1)
 
--- a text that names such a path names one
-named : (r : Result Path PathFault) → (length (path_or_root r) == 1) ≡ true → is_ok r ≡ true
-named (Ok p) h = refl
-named (Err why) h = absurd (false≢true h)
+-- what lies apart from the tool's own isn't the root
+far_has : (p : Path) → IsFar p → HasPart p
+unfolding dvc_path
+far_has [] h = absurd (false≢true (sym h.dvc))
+far_has (c ∷ p) h = ne_eqb (length (c ∷ p)) 0 (λ e. absurd (omega (arith, e)))
 
-all_named : (kept : List Path) (dir : Path) (texts : List (List ℕ)) → AllByRecursion (IsAlone kept) (map (path_from dir) texts) → list_all (is_path dir) texts ≡ true
-all_named kept dir [] h = refl
-all_named kept dir (text ∷ texts) h =
-    and_from (is_path dir text) (list_all (is_path dir) texts) (named (join dir text) h.0.one) (all_named kept dir texts h.1)
+-- ---- a stage
 
-one_each : (kept ps : List Path) → AllByRecursion (IsAlone kept) ps → AllByRecursion (λ p. length p ≡ 1) ps
-one_each kept [] h = tt
-one_each kept (p ∷ ps) h = (eqb-true (length p) 1 h.0.one, one_each kept ps h.1)
+once_made : (dir : Path) (outs : List WrittenOut) → AllPairs AreFree (map (λ out. path_from dir out.path) outs) → are_distinct (map (λ out. out.path) outs) ≡ true
+once_made dir [] h = refl
+once_made dir (out ∷ outs) h =
+    and_from (not (is_among (map (λ (o : WrittenOut). o.path) outs) out.path)) (are_distinct (map (λ (o : WrittenOut). o.path) outs))
+    (not_from_false (is_among (map (λ (o : WrittenOut). o.path) outs) out.path) (other outs h.0)) (once_made dir outs h.1)
+  where
+    other : (os : List WrittenOut) → AllByRecursion (AreFree (path_from dir out.path)) (map (λ (o : WrittenOut). path_from dir o.path) os) → is_among (map (λ (o : WrittenOut). o.path) os) out.path ≡ false
+    other [] k = refl
+    other (o ∷ os) k =
+        or_from (bytes_eq o.path out.path) (is_among (map (λ (x : WrittenOut). x.path) os) out.path)
+        (false_from_ne_true (bytes_eq o.path out.path) (λ e.
+        let same : o.path ≡ out.path = (bytes_eq-Decides o.path out.path).0 e in
+        both_ways (overlap (path_from dir out.path) (path_from dir o.path)) k.0
+        (ap (λ (t : List ℕ). overlap (path_from dir out.path) (path_from dir t)) same
+        ∙ ap (λ (b : Bool). b || b) (under-refl (path_from dir out.path)))))
+        (other os k.1)
 
--- ---- texts whose paths are apart
+texts_of_outs : (dir : Path) (outs : List WrittenOut) → map out_text (map (out_of dir) outs) ≡ map (λ out. out.path) outs
+texts_of_outs dir [] = refl
+texts_of_outs dir (out ∷ outs) = ap (λ (ts : List (List ℕ)). out.path ∷ ts) (texts_of_outs dir outs)
 
-overlap-same : (p q : Path) → p ≡ q → overlap q p ≡ true
-overlap-same p q e = ap (λ (x : Path). overlap x p) (sym e) ∙ ap (λ (b : Bool). b || b) (under-refl p)
+texts_of_deps : (outs : List Path) (dir : Path) (texts : List (List ℕ)) → map dep_text (map (dep_of outs dir) texts) ≡ texts
+texts_of_deps outs dir [] = refl
+texts_of_deps outs dir (text ∷ texts) = ap (λ (ts : List (List ℕ)). text ∷ ts) (texts_of_deps outs dir texts)
 
-apart_among : (dir : Path) (text : List ℕ) (texts : List (List ℕ)) → is_apart (path_from dir text) (map (path_from dir) texts) ≡ true → is_among texts text ≡ false
-apart_among dir text [] h = refl
-apart_among dir text (t ∷ texts) h =
-    let parts = apart_head (path_from dir text) (path_from dir t) (map (path_from dir) texts) h in
-    let other : bytes_eq t text ≡ false =
-    false_from_ne_true (bytes_eq t text) (λ e.
-    both_ways (overlap (path_from dir text) (path_from dir t)) parts.0
-    (overlap-same (path_from dir t) (path_from dir text) (ap (path_from dir) ((bytes_eq-Decides t text).0 e)))) in
-    or_from (bytes_eq t text) (is_among texts text) other (apart_among dir text texts parts.1)
+made_pairs : (outs : List Path) (s : Written) → AllPairs AreFree (stage_outs s) → AllPairs AreFree (made_paths (stage_of outs s))
+made_pairs outs s h =
+    pairs_map out_path AreFree (in_order out_text (outs_of s))
+    (pairs_in_order out_text (λ a b. AreFree a.path b.path) (λ a b. free_turned a.path b.path) (outs_of s)
+    (pairs_map (out_of s.dir) (λ a b. AreFree a.path b.path) s.outs (pairs_mapped (λ (out : WrittenOut). path_from s.dir out.path) AreFree s.outs h)))
 
-apart_distinct : (dir : Path) (texts : List (List ℕ)) → are_apart (map (path_from dir) texts) ≡ true → are_distinct texts ≡ true
-apart_distinct dir [] h = refl
-apart_distinct dir (text ∷ texts) h =
-    let parts = and_parts (is_apart (path_from dir text) (map (path_from dir) texts)) (are_apart (map (path_from dir) texts)) h in
-    and_from (not (is_among texts text)) (are_distinct texts) (not_from_false (is_among texts text) (apart_among dir text texts parts.0)) (apart_distinct dir texts parts.1)
-
--- ---- a stage of a plan
-
-pub record IsInPlan (s : Stage) : Type 0 where
-  pub commands : 0 < length s.commands
-  pub root : s.dir ≡ []
-  pub deps : AllByRecursion (IsAlone kept_from_deps) (dep_paths s)
-  pub outs : AllByRecursion (IsAlone kept_from_outs) (stage_outs s)
-  pub once : are_distinct s.deps ≡ true
-  pub order : in_order s.outs ≡ s.outs
-
-no_parts : (p : Path) → (length p == 0) ≡ true → p ≡ []
-no_parts [] h = refl
-no_parts (c ∷ p) h = let e : length (c ∷ p) ≡ 0 = eqb-true (length (c ∷ p)) 0 h in absurd (omega (arith, e))
-
-pub in_plan : (s : Stage) → 0 < length s.commands → are_distinct s.deps ≡ true → in_order s.outs ≡ s.outs → is_at_root s ≡ true → IsInPlan s
-in_plan s commands once order h =
-    let at = at_root_parts s h in
-    record {
-      commands = commands;
-      root = no_parts s.dir at.root;
-      deps = all_alone kept_from_deps (dep_paths s) at.deps;
-      outs = all_alone kept_from_outs (stage_outs s) at.outs;
-      once = once;
-      order = order;
-    }
-
--- ---- a turn
-
-abbrev reads : List Path → List Path → Bool
-reads outs deps = list_any (λ dep. list_any (overlap dep) outs) deps
-
-reads-parts : (xs ys deps : List Path) → reads (xs ++ ys) deps ≡ false → (reads xs deps ≡ false) × (reads ys deps ≡ false)
-reads-parts xs ys [] h = (refl, refl)
-reads-parts xs ys (dep ∷ deps) h =
-    let a = or_parts (list_any (overlap dep) (xs ++ ys)) (reads (xs ++ ys) deps) h in
-    let b = or_parts (list_any (overlap dep) xs) (list_any (overlap dep) ys) (sym (list_any-append (overlap dep) xs ys) ∙ a.0) in
-    let rest = reads-parts xs ys deps a.1 in
-    (or_from (list_any (overlap dep) xs) (reads xs deps) b.0 rest.0, or_from (list_any (overlap dep) ys) (reads ys deps) b.1 rest.1)
-
--- none of the stages is above this one
-free : (s : Stage) (as' : List Stage) → reads (flat_map stage_outs as') (dep_paths s) ≡ false → list_any (λ a. is_above a s) as' ≡ false
-free s [] h = refl
-free s (a ∷ as') h =
-    let parts = reads-parts (stage_outs a) (flat_map stage_outs as') (dep_paths s) h in
-    or_from (is_above a s) (list_any (λ x. is_above x s) as') parts.0 (free s as' parts.1)
-
-first_is_free : (s : Stage) (ss : List Stage) → is_ordered (s ∷ ss) ≡ true → list_any (λ a. is_above a s) (s ∷ ss) ≡ false
-first_is_free s ss h =
-    let parts = and_parts (not (reads (flat_map stage_outs (s ∷ ss)) (dep_paths s))) (is_ordered ss) h in
-    free s (s ∷ ss) (not-true (reads (flat_map stage_outs (s ∷ ss)) (dep_paths s)) parts.0)
-
-later_ordered : (s : Stage) (ss : List Stage) → is_ordered (s ∷ ss) ≡ true → is_ordered ss ≡ true
-later_ordered s ss h = (and_parts (not (reads (flat_map stage_outs (s ∷ ss)) (dep_paths s))) (is_ordered ss) h).1
-
-ordered : (ss : List Stage) → is_ordered ss ≡ true → order ss ≡ Some ss
-ordered [] h = refl
-ordered (s ∷ ss) h =
-    let first : first_free [] (s ∷ ss) ≡ Some (s, ss) =
-    cond-false (list_any (λ a. is_above a s) (s ∷ ss)) (first_free (s ∷ []) ss) (Some (s, ss)) (first_is_free s ss h) in
-    ap (option_and_then (λ found. option_map (λ later. found.0 ∷ later) (order_of (length ss) found.1))) first
-    ∙ ap (option_map (λ later. s ∷ later)) (ordered ss (later_ordered s ss h))
-
-some_path : (p : Path) → (p ≡ [] → ⊥) → not (length p == 0) ≡ true
-some_path [] h = absurd (h refl)
-some_path (c ∷ p) h = not_from_false (length (c ∷ p) == 0) (ne_eqb (length (c ∷ p)) 0 (λ e. absurd (omega arith)))
-
-apart_front : (p : Path) (xs ys : List Path) → is_apart p (xs ++ ys) ≡ true → is_apart p xs ≡ true
-apart_front p [] ys h = some_path p (apart_root p ys h)
-apart_front p (x ∷ xs) ys h =
-    let parts = apart_head p x (xs ++ ys) h in
-    and_from (not (overlap p x)) (is_apart p xs) (not_from_false (overlap p x) parts.0) (apart_front p xs ys parts.1)
-
-are_apart_front : (xs ys : List Path) → are_apart (xs ++ ys) ≡ true → are_apart xs ≡ true
-are_apart_front [] ys h = refl
-are_apart_front (x ∷ xs) ys h =
-    let parts = and_parts (is_apart x (xs ++ ys)) (are_apart (xs ++ ys)) h in
-    and_from (is_apart x xs) (are_apart xs) (apart_front x xs ys parts.0) (are_apart_front xs ys parts.1)
-
-paths_from : (kept : List Path) (dir : Path) (texts : List (List ℕ)) → AllByRecursion (IsAlone kept) (map (path_from dir) texts) → list_all (is_path dir) (in_order texts) ≡ true
-paths_from kept dir texts h = passes_in_order (is_path dir) texts (all_named kept dir texts h)
-
-ready : (s : Stage) → IsInPlan s → is_above s s ≡ false → are_apart (stage_outs s) ≡ true → IsReady s
-ready s it above apart =
-    let job = job_of s in
-    let deps : list_all (is_path s.dir) job.deps ≡ true = paths_from kept_from_deps s.dir s.deps it.deps in
-    let outs : list_all (is_path s.dir) job.outs ≡ true = paths_from kept_from_outs s.dir s.outs it.outs in
-    let apart_job : are_apart (out_paths job) ≡ true = ap (λ (texts : List (List ℕ)). are_apart (map (path_from s.dir) texts)) it.order ∙ apart in
-    record {
-      runnable = and_from (list_all (is_path s.dir) job.deps && list_all (is_path s.dir) job.outs) (are_apart (out_paths job)) (and_from (list_all (is_path s.dir) job.deps) (list_all (is_path s.dir) job.outs) deps outs) apart_job;
-      outs = it.order;
-      apart = above;
-      dir = ap (is_in_any (stage_outs s)) it.root ∙ root_outside (stage_outs s) apart;
-    }
-
--- a stage with what is so of its outputs alone
-record IsTurn (s : Stage) : Type 0 where
-  ready : IsReady s
-  apart : are_apart (stage_outs s) ≡ true
-
-all_turns : (ss : List Stage) → AllByRecursion IsInPlan ss → is_ordered ss ≡ true → are_apart (flat_map stage_outs ss) ≡ true → AllByRecursion IsTurn ss
-all_turns [] all order_ apart = tt
-all_turns (s ∷ ss) all order_ apart =
-    let above = or_parts (is_above s s) (list_any (λ a. is_above a s) ss) (first_is_free s ss order_) in
-    let own = are_apart_front (stage_outs s) (flat_map stage_outs ss) apart in (
-      record { ready = ready s all.0 above.0 own; apart = own },
-      all_turns ss all.1 (later_ordered s ss order_) (apart_rest (stage_outs s) (flat_map stage_outs ss) apart),
-    )
-
-all_ready : (ss : List Stage) → AllByRecursion IsTurn ss → AllByRecursion IsReady ss
-all_ready [] all = tt
-all_ready (s ∷ ss) all = (all.0.ready, all_ready ss all.1)
-
-all_roots : (ss : List Stage) → AllByRecursion IsInPlan ss → AllByRecursion (λ s. s.dir ≡ []) ss
-all_roots [] all = tt
-all_roots (s ∷ ss) all = (all.0.root, all_roots ss all.1)
-
-all_one : (xs ys : List Path) → AllByRecursion (λ p. length p ≡ 1) xs → AllByRecursion (λ p. length p ≡ 1) ys → AllByRecursion (λ p. length p ≡ 1) (xs ++ ys)
-all_one [] ys a b = b
-all_one (x ∷ xs) ys a b = (a.0, all_one xs ys a.1 b)
-
-all_ones : (ss : List Stage) → AllByRecursion IsInPlan ss → AllByRecursion (λ p. length p ≡ 1) (flat_map stage_outs ss)
-all_ones [] all = tt
-all_ones (s ∷ ss) all = all_one (stage_outs s) (flat_map stage_outs ss) (one_each kept_from_outs (stage_outs s) all.0.outs) (all_ones ss all.1)
+is_stage : (outs : List Path) (s : Written) → IsClear s → AllPairs AreFree (stage_outs s) → IsStage (stage_of outs s)
+is_stage outs s it apart = record {
+  commands = it.written.commands;
+  deps = refl;
+  made = refl;
+  dep_texts = rising dep_text (looks_of outs s) (ap are_distinct (texts_of_deps outs s.dir s.deps) ∙ it.written.deps);
+  out_texts = rising out_text (outs_of s) (ap are_distinct (texts_of_outs s.dir s.outs) ∙ once_made s.dir s.outs apart);
+  dep_names = each_in_order dep_text (λ d. Names s.dir d.text d.path) (looks_of outs s) (each_map (dep_of outs s.dir) (λ d. Names s.dir d.text d.path) s.deps it.deps);
+  out_names = each_in_order out_text (λ o. Names s.dir o.text o.path) (outs_of s) (each_map (out_of s.dir) (λ o. Names s.dir o.text o.path) s.outs it.outs);
+  apart = apart_from (made_paths (stage_of outs s)) (outs_each outs HasPart s (each_from IsFar HasPart (stage_outs s) far_has it.makes)) (made_pairs outs s apart);
+  no_params = refl;
+}
 
 -- ---- what the tool keeps
 
--- the parts of an overlap, and of those with the paths that are kept
-under_of : (p q : Path) → overlap p q ≡ false → (under p q ≡ false) × (under q p ≡ false)
-under_of p q h = or_parts (under p q) (under q p) h
+far_apart : (p : Path) → IsFar p → IsApart is_own p
+far_apart p far q u =
+    or_from (under dvc_path q) (under lock_path q)
+    (false_from_ne_true (under dvc_path q) (λ e. both_ways (overlap dvc_path p) far.dvc (under-overlap dvc_path p q e u)))
+    (false_from_ne_true (under lock_path q) (λ e. both_ways (overlap lock_path p) far.lock (under-overlap lock_path p q e u)))
 
-kept_path : (p : Path) → (length p == 1) ≡ true → overlap p dvc_path ≡ false → overlap p lock_path ≡ false → is_record p ≡ false
-unfolding lock_path dvc_path tmp_path
-kept_path p one dvc lock =
-    let d = under_of p dvc_path dvc in
-    let l = under_of p lock_path lock in
-    let name = path_text p in
-    let alone : p ≡ single name = alone_single p one in
-    let at : (under dvc_path p && under p dvc_path) ≡ false = and_left (under dvc_path p) (under p dvc_path) d.1 in
-    let tmp : under tmp_path p ≡ false = ap (under tmp_path) alone ∙ and_right (bytes_eq (codes ".dvc") name) false refl in
-    or_from (under lock_path p) ((under dvc_path p && under p dvc_path) || under tmp_path p) l.1
-    (or_from (under dvc_path p && under p dvc_path) (under tmp_path p) at tmp)
-
-dep_kept : (p : Path) → IsAlone kept_from_deps p → is_record p ≡ false
-dep_kept p alone =
-    let a = or_parts (overlap p dvc_path) (list_any (overlap p) (lock_path ∷ [])) alone.apart in
-    let b = or_parts (overlap p lock_path) false a.1 in
-    kept_path p alone.one a.0 b.0
-
--- what is known of an output
-record IsOut (p : Path) : Type 0 where
-  one : (length p == 1) ≡ true
-  dvc : overlap p dvc_path ≡ false
-  lock : overlap p lock_path ≡ false
-  yaml : overlap p yaml_path ≡ false
-
-out_parts : (p : Path) → IsAlone kept_from_outs p → IsOut p
-out_parts p alone =
-    let a = or_parts (overlap p dvc_path) (list_any (overlap p) (lock_path ∷ yaml_path ∷ [])) alone.apart in
-    let b = or_parts (overlap p lock_path) (list_any (overlap p) (yaml_path ∷ [])) a.1 in
-    let c = or_parts (overlap p yaml_path) false b.1 in
-    record { one = alone.one; dvc = a.0; lock = b.0; yaml = c.0 }
-
-out_kept : (p : Path) → IsAlone kept_from_outs p → is_record p ≡ false
-out_kept p alone = let out = out_parts p alone in kept_path p out.one out.dvc out.lock
-
-each_kept : (kept ps : List Path) → ((p : Path) → IsAlone kept p → is_record p ≡ false) → AllByRecursion (IsAlone kept) ps → AllByRecursion (λ p. is_record p ≡ false) ps
-each_kept kept [] law h = tt
-each_kept kept (p ∷ ps) law h = (law p h.0, each_kept kept ps law h.1)
-
-root_kept : is_record [] ≡ false
-unfolding lock_path dvc_path tmp_path
-root_kept = refl
-
-kept : (s : Stage) → IsInPlan s → IsKept is_record s
-kept s it = record {
-  dir = ap is_record it.root ∙ root_kept;
-  deps = each_kept kept_from_deps (dep_paths s) dep_kept it.deps;
-  outs = each_kept kept_from_outs (stage_outs s) out_kept it.outs;
+kept : (outs : List Path) (s : Written) → IsClear s → IsKept is_own (stage_of outs s)
+kept outs s it = record {
+  dir = or_from (under dvc_path s.dir) (under lock_path s.dir) it.dir_dvc it.dir_lock;
+  reads = reads_each outs (IsApart is_own) s (each_from IsFar (IsApart is_own) (map (path_from s.dir) s.deps) far_apart it.reads);
+  outs = outs_each outs (IsApart is_own) s (each_from IsFar (IsApart is_own) (stage_outs s) far_apart it.makes);
 }
 
-all_kept : (ss : List Stage) → AllByRecursion IsInPlan ss → AllByRecursion (IsKept is_record) ss
-all_kept [] all = tt
-all_kept (s ∷ ss) all = (kept s all.0, all_kept ss all.1)
+not_in_yaml : (p : Path) → overlap yaml_path p ≡ false → under p yaml_path ≡ false
+not_in_yaml p h = (or_parts (under yaml_path p) (under p yaml_path) h).1
 
-outside_yaml : (ps : List Path) → AllByRecursion (IsAlone kept_from_outs) ps → is_in_any ps yaml_path ≡ false
-outside_yaml [] h = refl
-outside_yaml (p ∷ ps) h =
-    or_from (under p yaml_path) (is_in_any ps yaml_path) (under_of p yaml_path (out_parts p h.0).yaml).0 (outside_yaml ps h.1)
+not_in_dvc : (q p : Path) → under dvc_path q ≡ true → IsFar p → under p q ≡ false
+not_in_dvc q p u far = false_from_ne_true (under p q) (λ e. both_ways (overlap dvc_path p) far.dvc (under-overlap dvc_path p q u e))
 
-same_first : (name c : List ℕ) (p : Path) → under (single name) (single c) ≡ false → under (single name) (c ∷ p) ≡ false
-same_first name c p h = h
-
--- a path of one component that isn't the tool's folder holds nothing of it
-not_in_dvc : (p q : Path) → IsOut p → under dvc_path q ≡ true → under p q ≡ false
-unfolding dvc_path
-not_in_dvc p [] out u = absurd (false≢true u)
-not_in_dvc p (c ∷ q) out u =
-    let parts = and_parts (bytes_eq (codes ".dvc") c) true u in
-    let same : codes ".dvc" ≡ c = (bytes_eq-Decides (codes ".dvc") c).0 parts.0 in
-    let alone : p ≡ single (path_text p) = alone_single p out.one in
-    let apart : under (single (path_text p)) (single c) ≡ false =
-    ap (λ (x : Path). under x (single c)) (sym alone) ∙ ap (λ (x : List ℕ). under p (single x)) (sym same) ∙ (under_of p dvc_path out.dvc).0 in
-    ap (λ (x : Path). under x (c ∷ q)) alone ∙ same_first (path_text p) c q apart
-
-outside_dvc : (ps : List Path) (q : Path) → AllByRecursion (IsAlone kept_from_outs) ps → under dvc_path q ≡ true → is_in_any ps q ≡ false
-outside_dvc [] q h u = refl
-outside_dvc (p ∷ ps) q h u =
-    or_from (under p q) (is_in_any ps q) (not_in_dvc p q (out_parts p h.0) u) (outside_dvc ps q h.1 u)
-
-outside : (s : Stage) → IsInPlan s → IsOutside s
-outside s it = record {
-  yaml = outside_yaml (stage_outs s) it.outs;
-  dvc = λ p u. outside_dvc (stage_outs s) p it.outs u;
+outside : (outs : List Path) (s : Written) → IsClear s → IsOutside (stage_of outs s)
+outside outs s it = record {
+  yaml = none_true (λ out. under out yaml_path) (made_paths (stage_of outs s))
+      (outs_each outs (λ p. under p yaml_path ≡ false) s (each_from (λ p. overlap yaml_path p ≡ false) (λ p. under p yaml_path ≡ false) (stage_outs s) not_in_yaml it.yaml));
+  dvc = λ q u. none_true (λ out. under out q) (made_paths (stage_of outs s))
+      (outs_each outs (λ p. under p q ≡ false) s (each_from IsFar (λ p. under p q ≡ false) (stage_outs s) (λ p far. not_in_dvc q p u far) it.makes));
 }
-
-all_outside : (ss : List Stage) → AllByRecursion IsInPlan ss → AllByRecursion IsOutside ss
-all_outside [] all = tt
-all_outside (s ∷ ss) all = (outside s all.0, all_outside ss all.1)
-
--- ---- entries
-
-outs_rise : (s : Stage) → IsInPlan s → are_apart (stage_outs s) ≡ true → is_rising (in_order s.outs) ≡ true
-outs_rise s it apart =
-    once_in_order s.outs (ap are_distinct it.order ∙ apart_distinct s.dir s.outs apart)
-
-recordable : (s : Stage) → IsInPlan s → are_apart (stage_outs s) ≡ true → IsRecordable s
-recordable s it apart = record {
-  commands = it.commands;
-  deps = rising s.deps it.once;
-  outs = outs_rise s it apart;
-}
-
-all_recordable : (ss : List Stage) → AllByRecursion IsInPlan ss → AllByRecursion IsTurn ss → AllByRecursion IsRecordable ss
-all_recordable [] all turns = tt
-all_recordable (s ∷ ss) all turns = (recordable s all.0 turns.0.apart, all_recordable ss all.1 turns.1)
 
 -- ---- names
 
-have_names-distinct : (ss : List Stage) → have_names ss ≡ are_distinct (map (λ s. s.name) ss)
-have_names-distinct [] = refl
-have_names-distinct (s ∷ ss) = ap (λ (b : Bool). not (is_among (map (λ x. x.name) ss) s.name) && b) (have_names-distinct ss)
+abbrev AreOther : Written → Written → Type 0
+AreOther a b = bytes_eq b.name a.name ≡ false
+
+other_turned : (a b : Written) → AreOther a b → AreOther b a
+other_turned a b h = text_swap a.name b.name ∙ h
+
+other_names : (ss : List Written) → are_distinct (map (λ s. s.name) ss) ≡ true → AllPairs AreOther ss
+other_names [] h = tt
+other_names (s ∷ ss) h =
+    let parts = and_parts (not (is_among (map (λ (x : Written). x.name) ss) s.name)) (are_distinct (map (λ (x : Written). x.name) ss)) h in (
+      each_mapped (λ (x : Written). x.name) (λ name. bytes_eq name s.name ≡ false) ss
+          (each_false (λ name. bytes_eq name s.name) (map (λ (x : Written). x.name) ss) (not-true (is_among (map (λ (x : Written). x.name) ss) s.name) parts.0)),
+      other_names ss parts.1,
+    )
+
+names_from : (outs : List Path) (ss : List Written) → AllPairs AreOther ss → have_names (map (stage_of outs) ss) ≡ true
+names_from outs [] h = refl
+names_from outs (s ∷ ss) h =
+    let names : List (List ℕ) = map (λ (x : Stage). x.name) (map (stage_of outs) ss) in
+    let none : is_among names s.name ≡ false =
+    none_true (λ name. bytes_eq name s.name) names
+    (each_map (λ (x : Stage). x.name) (λ name. bytes_eq name s.name ≡ false) (map (stage_of outs) ss)
+    (each_map (stage_of outs) (λ x. bytes_eq x.name s.name ≡ false) ss h.0)) in
+    and_from (not (is_among names s.name)) (have_names (map (stage_of outs) ss)) (not_from_false (is_among names s.name) none) (names_from outs ss h.1)
+
+-- ---- outputs of several stages
+
+between_made : (outs : List Path) (a b : Written) → Between AreFree (stage_outs a) (stage_outs b) → Between AreFree (made_paths (stage_of outs a)) (made_paths (stage_of outs b))
+between_made outs a b h =
+    outs_each outs (λ p. AllByRecursion (AreFree p) (made_paths (stage_of outs b))) a
+    (each_from (λ p. AllByRecursion (AreFree p) (stage_outs b)) (λ p. AllByRecursion (AreFree p) (made_paths (stage_of outs b))) (stage_outs a)
+    (λ p k. outs_each outs (AreFree p) b k) h)
+
+-- ---- inside an output
+
+any_map : {A B : Type 0} (g : A → B) (t : B → Bool) (xs : List A) → list_any t (map g xs) ≡ list_any (λ x. t (g x)) xs
+any_map g t [] = refl
+any_map g t (x ∷ xs) = ap (λ (b : Bool). t (g x) || b) (any_map g t xs)
+
+any_flat : {A B : Type 0} (g : A → List B) (t : B → Bool) (xs : List A) → list_any t (flat_map g xs) ≡ list_any (λ x. list_any t (g x)) xs
+any_flat g t [] = refl
+any_flat g t (x ∷ xs) = list_any-append t (g x) (flat_map g xs) ∙ ap (λ (b : Bool). list_any t (g x) || b) (any_flat g t xs)
+
+any_same : {A : Type 0} (t u : A → Bool) → ((x : A) → t x ≡ u x) → (xs : List A) → list_any t xs ≡ list_any u xs
+any_same t u same [] = refl
+any_same t u same (x ∷ xs) = ap (λ (b : Bool). b || list_any t xs) (same x) ∙ ap (λ (b : Bool). u x || b) (any_same t u same xs)
+
+any_made : (outs : List Path) (t : Path → Bool) (s : Written) → list_any t (made_paths (stage_of outs s)) ≡ list_any t (stage_outs s)
+any_made outs t s =
+    any_map out_path t (in_order out_text (outs_of s))
+    ∙ any_in_order out_text (λ o. t o.path) (outs_of s)
+    ∙ any_map (out_of s.dir) (λ o. t o.path) s.outs
+    ∙ sym (any_map (λ (out : WrittenOut). path_from s.dir out.path) t s.outs)
+
+any_planned : (outs : List Path) (t : Path → Bool) (ss : List Written) (ns : List ℕ) → ((n : ℕ) → n < length ss → is_in ns n ≡ true) →
+    list_any t (flat_map made_paths (map (stage_of outs) (stages_at ss ns))) ≡ list_any t (all_outs ss)
+any_planned outs t ss ns all =
+    any_flat made_paths t (map (stage_of outs) (stages_at ss ns))
+    ∙ any_map (stage_of outs) (λ s. list_any t (made_paths s)) (stages_at ss ns)
+    ∙ any_same (λ s. list_any t (made_paths (stage_of outs s))) (λ s. list_any t (stage_outs s)) (any_made outs t) (stages_at ss ns)
+    ∙ any_picked (λ s. list_any t (stage_outs s)) ss ns all
+    ∙ sym (any_flat stage_outs t ss)
+
+marked_by : (outs : List Path) (dir : Path) (texts : List (List ℕ)) → AllByRecursion (λ (d : Dep). d.inside ≡ list_any (is_within d.path) outs) (map (dep_of outs dir) texts)
+marked_by outs dir [] = tt
+marked_by outs dir (text ∷ texts) = (refl, marked_by outs dir texts)
+
+marked : (ss : List Written) (ns : List ℕ) → ((n : ℕ) → n < length ss → is_in ns n ≡ true) → (s : Written) → AreMarked (planned_at ss ns) (stage_of (all_outs ss) s)
+marked ss ns all s =
+    let outs = all_outs ss in
+    each_from (λ (d : Dep). d.inside ≡ list_any (is_within d.path) outs) (λ (d : Dep). d.inside ≡ list_any (is_within d.path) (flat_map made_paths (planned_at ss ns))) (stage_of outs s).deps
+    (λ d h. h ∙ sym (any_planned outs (is_within d.path) ss ns all))
+    (each_in_order dep_text (λ (d : Dep). d.inside ≡ list_any (is_within d.path) outs) (looks_of outs s) (marked_by outs s.dir s.deps))
+
+-- ---- the order
+
+-- what a stage reads overlaps no output of another that isn't above it
+reads_apart : (outs : List Path) (a b : Written) → IsClear b → is_above a b ≡ false → AllByRecursion (λ p. AllByRecursion (AreFree p) (made_paths (stage_of outs a))) (read_paths (stage_of outs b))
+reads_apart outs a b it h =
+    let none : list_any (makes a) (needs b) ≡ false = sym (ap (λ (x : Bool). not x && list_any (makes a) (needs b)) it.thawed) ∙ h in
+    let all = each_first (λ need. makes a need ≡ false) (map (path_from b.dir) b.deps) (map (λ want. path_from b.dir want.file) b.params) (each_false (makes a) (needs b) none) in
+    reads_each outs (λ p. AllByRecursion (AreFree p) (made_paths (stage_of outs a))) b
+    (each_from (λ need. makes a need ≡ false) (λ need. AllByRecursion (AreFree need) (made_paths (stage_of outs a))) (map (path_from b.dir) b.deps)
+    (λ need k. outs_each outs (AreFree need) a
+    (each_from (λ out. overlap out need ≡ false) (AreFree need) (stage_outs a) (λ out free. free_turned out need free) (each_false (λ out. overlap out need) (stage_outs a) k)))
+    all)
+
+reads_none : (outs : List Path) (b : Written) (as' : List Written) → IsClear b → AllByRecursion (λ a. is_above a b ≡ false) as' →
+    list_any (λ p. list_any (overlap p) (flat_map made_paths (map (stage_of outs) as'))) (read_paths (stage_of outs b)) ≡ false
+reads_none outs b as' it h =
+    let reads = read_paths (stage_of outs b) in
+    none_true (λ p. list_any (overlap p) (flat_map made_paths (map (stage_of outs) as'))) reads
+    (go as' reads (each_from (λ a. is_above a b ≡ false) (λ a. AllByRecursion (λ p. AllByRecursion (AreFree p) (made_paths (stage_of outs a))) reads) as' (λ a k. reads_apart outs a b it k) h))
+  where
+    nothing : (ps : List Path) → AllByRecursion (λ p. list_any (overlap p) [] ≡ false) ps
+    nothing [] = tt
+    nothing (p ∷ ps) = (refl, nothing ps)
+
+    go : (xs : List Written) (ps : List Path) → AllByRecursion (λ a. AllByRecursion (λ p. AllByRecursion (AreFree p) (made_paths (stage_of outs a))) ps) xs →
+        AllByRecursion (λ p. list_any (overlap p) (flat_map made_paths (map (stage_of outs) xs)) ≡ false) ps
+    go [] ps k = nothing ps
+    go (x ∷ xs) ps k =
+        each_both (λ p. AllByRecursion (AreFree p) (made_paths (stage_of outs x))) (λ p. list_any (overlap p) (flat_map made_paths (map (stage_of outs) xs)) ≡ false)
+        (λ p. list_any (overlap p) (flat_map made_paths (map (stage_of outs) (x ∷ xs))) ≡ false) ps
+        (λ p here later. list_any-append (overlap p) (made_paths (stage_of outs x)) (flat_map made_paths (map (stage_of outs) xs))
+        ∙ or_from (list_any (overlap p) (made_paths (stage_of outs x))) (list_any (overlap p) (flat_map made_paths (map (stage_of outs) xs)))
+        (none_true (overlap p) (made_paths (stage_of outs x)) here) later)
+        k.0 (go xs ps k.1)
+
+ordered_cons : (outs : List Path) (o : Option Written) (rest : List Written) → ((s : Written) → o ≡ Some s → IsClear s × AllByRecursion (λ a. is_above a s ≡ false) (s ∷ rest)) →
+    is_ordered (map (stage_of outs) rest) ≡ true → is_ordered (map (stage_of outs) (cons_option o rest)) ≡ true
+ordered_cons outs None rest f h = h
+ordered_cons outs (Some s) rest f h =
+    let it = f s refl in
+    let meets = list_any (λ p. list_any (overlap p) (flat_map made_paths (map (stage_of outs) (s ∷ rest)))) (read_paths (stage_of outs s)) in
+    and_from (not meets) (is_ordered (map (stage_of outs) rest)) (not_from_false meets (reads_none outs s (s ∷ rest) it.0 it.1)) h
+
+ordered : (outs : List Path) (ss : List Written) (ns : List ℕ) → AllByRecursion IsClear ss → StandsBehind (all_above ss) ns → is_ordered (map (stage_of outs) (stages_at ss ns)) ≡ true
+ordered outs ss [] all h = refl
+ordered outs ss (n ∷ ns) all h =
+    ordered_cons outs (slice_get ss n) (stages_at ss ns)
+    (λ s e. (
+      at_place IsClear ss n s all e,
+      (
+        none_above ss n n s s e e (λ k. both_ways (is_in (n ∷ ns) n) (h.0 n k) (itself n ns)),
+        each_picked (λ a. is_above a s ≡ false) ss ns (λ m a inside d. none_above ss m n a s d e (λ k. both_ways (is_in (n ∷ ns) m) (h.0 m k) (behind n m ns inside))),
+      ),
+    ))
+    (ordered outs ss ns all h.2)
+  where
+    itself : (n : ℕ) (ns : List ℕ) → is_in (n ∷ ns) n ≡ true
+    itself n ns = or_left (n == n) (is_in ns n) (eq-eqb n n refl)
+
+    behind : (n m : ℕ) (ns : List ℕ) → is_in ns m ≡ true → is_in (n ∷ ns) m ≡ true
+    behind n m ns inside = or_right (n == m) (is_in ns m) inside
 
 -- ---- the whole
 
-pub usable : (ss : List Stage) → AllByRecursion IsInPlan ss → are_distinct (map (λ s. s.name) ss) ≡ true → is_in_order_as_written ss ≡ true → AreUsable ss
-usable ss all distinct graph =
-    let parts = and_parts (are_apart (flat_map stage_outs ss)) (is_ordered ss) graph in
-    let names : have_names ss ≡ true = have_names-distinct ss ∙ distinct in
-    let turns = all_turns ss all parts.1 parts.0 in
+pub usable : (ss : List Written) → AreClear ss → are_distinct (map (λ s. s.name) ss) ≡ true → AreUsable (planned ss)
+usable ss it distinct =
+    let outs = all_outs ss in
+    let above = all_above ss in
+    let ns = order above in
+    let behind = behind_order above in
+    let all : (n : ℕ) → n < length ss → is_in ns n ≡ true = all_placed ss it.no_cycle in
+    let once : AreOnce ns = once_placed above ns behind in
+    let pairs = pairs_of_flat stage_outs AreFree ss it.apart in
+    let each : AllByRecursion IsClear (stages_at ss ns) = each_picked IsClear ss ns (λ n s inside e. at_place IsClear ss n s it.each e) in
+    let own : AllByRecursion (λ s. AllPairs AreFree (stage_outs s)) (stages_at ss ns) =
+    each_picked (λ s. AllPairs AreFree (stage_outs s)) ss ns (λ n s inside e. at_place (λ x. AllPairs AreFree (stage_outs x)) ss n s pairs.0 e) in
+    let cross : AllPairs (λ a b. Between AreFree (stage_outs a) (stage_outs b)) (stages_at ss ns) =
+    pairs_picked (λ a b. Between AreFree (stage_outs a) (stage_outs b)) (λ a b. between_turned AreFree free_turned (stage_outs a) (stage_outs b)) ss pairs.1 ns once in
+    let made : AllPairs AreFree (flat_map made_paths (map (stage_of outs) (stages_at ss ns))) =
+    pairs_flat made_paths AreFree (map (stage_of outs) (stages_at ss ns))
+    (each_map (stage_of outs) (λ x. AllPairs AreFree (made_paths x)) (stages_at ss ns) (each_from (λ s. AllPairs AreFree (stage_outs s)) (λ s. AllPairs AreFree (made_paths (stage_of outs s))) (stages_at ss ns) (made_pairs outs) own))
+    (pairs_map (stage_of outs) (λ x y. Between AreFree (made_paths x) (made_paths y)) (stages_at ss ns)
+    (pairs_from (λ a b. Between AreFree (stage_outs a) (stage_outs b)) (λ a b. Between AreFree (made_paths (stage_of outs a)) (made_paths (stage_of outs b))) (stages_at ss ns) (between_made outs) cross)) in
+    let some : AllByRecursion HasPart (flat_map made_paths (map (stage_of outs) (stages_at ss ns))) =
+    each_flat made_paths HasPart (map (stage_of outs) (stages_at ss ns))
+    (each_map (stage_of outs) (λ x. AllByRecursion HasPart (made_paths x)) (stages_at ss ns)
+    (each_from IsClear (λ s. AllByRecursion HasPart (made_paths (stage_of outs s))) (stages_at ss ns)
+    (λ s k. outs_each outs HasPart s (each_from IsFar HasPart (stage_outs s) far_has k.makes)) each)) in
     record {
-      planned = λ t. plan_at_root is_record ss t (all_ready ss turns) names parts.1 parts.0 (all_kept ss all) (all_roots ss all) (all_ones ss all);
-      recordable = all_recordable ss all turns;
-      outside = all_outside ss all;
-      in_order = ordered ss parts.1;
+      planned = record {
+        each = each_map (stage_of outs) IsStage (stages_at ss ns) (each_both IsClear (λ s. AllPairs AreFree (stage_outs s)) (λ s. IsStage (stage_of outs s)) (stages_at ss ns) (is_stage outs) each own);
+        names = names_from outs (stages_at ss ns) (pairs_picked AreOther other_turned ss (other_names ss distinct) ns once);
+        order = ordered outs ss ns it.each behind;
+        apart = apart_from (flat_map made_paths (map (stage_of outs) (stages_at ss ns))) some made;
+        kept = each_map (stage_of outs) (IsKept is_own) (stages_at ss ns) (each_from IsClear (λ s. IsKept is_own (stage_of outs s)) (stages_at ss ns) (kept outs) each);
+        marked = each_map (stage_of outs) (AreMarked (planned ss)) (stages_at ss ns) (each_from IsClear (λ s. AreMarked (planned ss) (stage_of outs s)) (stages_at ss ns) (λ s k. marked ss ns all s) each);
+      };
+      outside = each_map (stage_of outs) IsOutside (stages_at ss ns) (each_from IsClear (λ s. IsOutside (stage_of outs s)) (stages_at ss ns) (outside outs) each);
     }

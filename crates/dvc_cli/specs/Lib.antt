@@ -1,5 +1,4 @@
 pub mod Plan
-pub mod Graph
 pub mod Read
 pub mod Workspace
 pub mod Tell

@@ -1,18 +1,24 @@
 -- What may happen to a workspace: edits, commands and stops, in any order.
 --     IsReached book effect n     the moment may be reached; the book has what the commands until then met
 --     LivesAreSound               each moment that may be reached is sound
+--     CoversCommand book m n      the book has what a command met, from its start to its end
+--     ToldBooksDo                 the book that a world tells is one that the headline's premise asks for, where it covers the command
 -- One book stands for a whole life: it has one content under each digest.
 use Rattle.std.specs.Prelude.{◌≡◌, ℕ, false, List, Some, None}
+use Rattle.std.specs.List.{AllByRecursion}
 use Rattle.dvc_base.specs.Path.{Path}
+use Rattle.dvc_base.specs.Name.{ObjectName}
 use Rattle.world_api.specs.Tree.{item_at}
 use Rattle.world_api.specs.Effect.{Effect}
-use Rattle.world_api.specs.History.{Moment}
+use Rattle.world_api.specs.History.{Moment, Book}
 use Rattle.world_api.specs.Layout.{lock_path}
-use Rattle.repro_laws.specs.Book.{Book}
+use Rattle.object_cache.specs.Objects.{object_at}
+use Rattle.repro_laws.specs.Book.{IsIn}
+use Rattle.repro_laws.specs.Headline.{Covers}
 use Rattle.repro_laws.specs.Sound.{IsSound, IsImage, IsMetSince}
 use Rattle.repro_laws.specs.declared.stage.Stage.{Stage}
 use Rattle.dvc_cli.specs.Workspace.{stages_in}
-use Rattle.dvc_cli.specs.Command.{InCommand}
+use Rattle.dvc_cli.specs.Command.{IsReliable, InCommand}
 
 -- nothing is remembered, and all that stands there is on the disk
 pub record IsFresh (n : Moment) : Type 0 where
@@ -41,3 +47,18 @@ pub data IsReached (book : Book) (effect : Effect) : Moment → Type 0 where
 
 abbrev pub LivesAreSound : Type 0
 LivesAreSound = (book : Book) (effect : Effect) (n : Moment) → IsReached book effect n → IsSound book effect n
+
+-- ---- the book that a world tells
+
+-- no two contents that the command met share an MD5: the book has the values that the stages name as they stand at the start, and at
+-- the end those of each stage whose job has run or whose entry is its present one; and each object that is whole there
+pub record CoversCommand (book : Book) (m n : Moment) : Type 0 where
+  pub before : (stages : List Stage) → stages_in m.tree ≡ Some stages → AllByRecursion (Covers book m.tree) stages
+  pub objects_before : (name : ObjectName) (bytes : List ℕ) → object_at m.tree name ≡ Some bytes → IsIn book bytes
+  pub after : (stages : List Stage) → stages_in m.tree ≡ Some stages → IsMetSince book stages m n
+  pub objects_after : (name : ObjectName) (bytes : List ℕ) → object_at n.tree name ≡ Some bytes → IsIn book bytes
+
+abbrev pub ToldBooksDo : Type 0
+ToldBooksDo =
+    (effect : Effect) (m n : Moment)
+    → IsSound n.aside.book effect m → CoversCommand n.aside.book m n → IsReliable effect m n

@@ -3,7 +3,7 @@
 --     stages_in t            its stages, where it has some
 --     workspace_fault t      why a workspace can't be read: the first refusal in their order
 --     workspace_of t         the workspace of a tree, where nothing is refused
-use Rattle.std.specs.Prelude.{List, ◌∷◌, [], Option, Some, None, Result, Ok, Err}
+use Rattle.std.specs.Prelude.{List, ◌∷◌, ◌++◌, [], Option, Some, None, Result, Ok, Err}
 use Rattle.std.specs.Result.{result_ok}
 use Rattle.dvc_base.specs.Answer.{fault_in}
 use Rattle.dvc_base.specs.declared.fault.Fault.{Fault}
@@ -14,7 +14,7 @@ use Rattle.dvc_base.specs.declared.node.Node.{Node}
 use Rattle.world_api.specs.Tree.{Tree, Item, file, item_at}
 use Rattle.world_api.specs.Layout.{dvc_path, lock_path, yaml_path}
 use Rattle.lock_files.specs.Book.{Lock}
-use Rattle.repro_laws.specs.Due.{first_fault}
+use Rattle.repro_laws.specs.Refusals.{first_fault}
 use Rattle.repro_laws.specs.Sound.{lock_of}
 use Rattle.repro_laws.specs.declared.stage.Stage.{Stage}
 use Rattle.dvc_cli.specs.Plan.{plan_of}
@@ -34,21 +34,21 @@ stages_in t = result_ok (plan_in t)
 
 -- ---- what is refused of it
 
--- which faults may come of a text, of a file, of a path's text, of the plan, and of the whole
+-- which faults may come of a text, of a file, of the graph, of the plan, and of the whole
 abbrev pub parse_kinds : List FaultKind
 parse_kinds = k.NoMemory ∷ k.Yaml ∷ k.Schema ∷ k.Unsupported ∷ k.Legacy ∷ []
 
 abbrev pub file_kinds : List FaultKind
 file_kinds = k.WorldFault ∷ k.NotBuilt ∷ k.TooLarge ∷ k.Changed ∷ parse_kinds
 
-abbrev pub outside_kinds : List FaultKind
-outside_kinds = k.NoMemory ∷ k.Outside ∷ []
+abbrev pub graph_kinds : List FaultKind
+graph_kinds = k.NoMemory ∷ k.Outside ∷ k.Reserved ∷ k.Duplicate ∷ k.Overlap ∷ k.VarsFromOutput ∷ k.Cycle ∷ []
 
 abbrev pub plan_kinds : List FaultKind
-plan_kinds = k.NotBuilt ∷ k.TooLarge ∷ k.Schema ∷ k.Unsupported ∷ outside_kinds
+plan_kinds = k.NotBuilt ∷ k.TooLarge ∷ k.Schema ∷ k.Unsupported ∷ graph_kinds
 
 abbrev pub read_kinds : List FaultKind
-read_kinds = k.NotFolder ∷ k.Outside ∷ file_kinds
+read_kinds = k.NotFolder ∷ file_kinds ++ graph_kinds
 
 -- a file stands where the folder of the tool's own has to be
 abbrev pub place_fault : Option Item → Option Fault

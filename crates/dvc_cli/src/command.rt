@@ -11,8 +11,15 @@ use crate::message::tell;
 use crate::workspace::read_workspace;
 use dvc_base::{Fault, Texts};
 use repro_core::repro;
+use repro_laws::Flags;
 use std::alloc::Global;
 use world_api::{Sink, World};
+
+// Nothing is forced, and no output comes back from the cache.
+const NO_FLAGS: Flags = Flags {
+    force: false,
+    run_cache: false,
+};
 
 /// How a call of the program ended: its exit status, and the fault that it told, if there is one.
 #[derive(Drop)]
@@ -92,6 +99,7 @@ fn perform<W: World, K: Sink>(
         world,
         &mut workspace.lock,
         workspace.stages.as_slice(),
+        NO_FLAGS,
         out,
     )
 }

@@ -2,18 +2,17 @@
 #![tactic(auto)]
 
 mod book;
+mod by_text;
 mod command;
-mod graph;
 mod law;
 mod message;
-mod outside;
 mod plan;
+mod planned;
 mod read;
 mod room;
 mod root;
-mod turnable;
 mod workspace;
 
 pub use command::{Done, dvc};
-pub use law::life_law;
+pub use law::{life_law, told_book_law};
 pub use message::tell;

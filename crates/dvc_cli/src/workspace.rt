@@ -30,6 +30,8 @@ pub(crate) struct Workspace {
 }
 
 /// Reads `dvc.yaml` and `dvc.lock`. The lock's refusals come before those of what `dvc.yaml` says.
+// Its buffers are no part of the caller's frame, which stays during the turns.
+#[inline(never)]
 pub(crate) fn read_workspace<F: ReadFiles>(alloc: Global, files: &mut F) -> Result<Workspace, Fault>
     ensures ready { IfOk result (λ workspace. AreUsable workspace.stages) }
     ensures form { IfOk result (λ workspace. IsBook workspace.lock) }

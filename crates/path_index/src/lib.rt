@@ -2,5 +2,6 @@
 #![tactic(auto)]
 
 mod index;
+mod inside;
 
 pub use index::PathIndex;

@@ -4,7 +4,7 @@ use Rattle.repro_core.specs.Steps.{turn_kinds}
 use Rattle.dvc_cli.specs.Plan.{AreUsable}
 use Rattle.dvc_cli.specs.Workspace.{read_kinds}
 use Rattle.dvc_cli.proofs.AnswerLemmas.{is_repro-words}
-use Rattle.dvc_cli.proofs.CommandLemmas.{refused_does, refused_puts, other_refusal, other_halted, other_answers, unread_refusal, unread_halted, repro_answers, turned_at, turned_does, turned_refuses, turned_puts, workspace_at}
+use Rattle.dvc_cli.proofs.CommandLemmas.{at_ok, at_err, refused_does, refused_puts, other_refusal, other_halted, other_answers, unread_refusal, unread_halted, repro_answers, turned_at, turned_does, turned_refuses, turned_puts, workspace_at}
 use Rattle.dvc_cli.proofs.command.perform.Goals as goal
 
 -- ---- words of no command
@@ -67,7 +67,7 @@ returns-in_err-workspace-clause-puts g c = λ k.
 -- ---- turns
 
 pub repro-requires-clause-planned : goal.repro-requires-clause-planned
-repro-requires-clause-planned g c = λ t. rw c.as_slice.ensures.same (c.in_ok-workspace.ensures.ready.planned t)
+repro-requires-clause-planned g c = rw c.as_slice.ensures.same c.in_ok-workspace.ensures.ready.planned
 
 pub returns-clause-does : goal.returns-clause-does
 returns-clause-does g c = λ t.
@@ -84,7 +84,7 @@ returns-clause-does g c = λ t.
     let e = c.repro.ensures in
     turned_does c.repro.result c.args.words.now stages lock c.repro.new.lock start old new same u w (e.remembered t)
     (turned_at old.present.aside.fixed.effect stages lock c.repro.new.lock c.repro.result old new
-    (e.headline t) (e.answer t) (e.ran t) (e.untouched t) (e.halted t) (e.moments t))
+    (at_ok _ g.W.Ground.tells c.repro.result t e.headline) (at_ok _ g.W.Ground.tells c.repro.result t e.taken) (e.answer t) (e.ran t) (e.untouched t) (at_err _ g.W.Ground.tells c.repro.result t e.halted) (e.moments t))
 
 pub returns-clause-refuses : goal.returns-clause-refuses
 returns-clause-refuses g c = λ t.
@@ -113,4 +113,4 @@ returns-clause-puts g c = λ k.
     turned_puts c.args.words.now g.W.Ground.tells _ stages lock start old (g.W.Ground.history c.repro.new.world) _ _ c.in_ok-workspace.ensures.unchanged
     (λ t. workspace_at c.args.words.now start old c.in_ok-workspace.workspace.stages stages lock (c.in_ok-workspace.ensures.unchanged t) c.as_slice.ensures.same repro
     (c.in_ok-workspace.ensures.answer t) (c.in_ok-workspace.ensures.planned t) (c.in_ok-workspace.ensures.remembered t))
-    (λ t. c.repro.ensures.report t k) (c.repro.ensures.lines k)
+    (λ t. c.repro.ensures.report k t) (c.repro.ensures.lines k)

@@ -1,0 +1,185 @@
+// The stages that have turns, from the stages as the schema reads them.
+ghost use Rattle.std.specs.Prelude.{◌≡◌, [], ◌∷◌, ◌++◌, map, IfOk, OnOk};
+ghost use Rattle.world_api.specs.Effect.{path_from};
+ghost use Rattle.lock_files.specs.Order.{in_order};
+ghost use Rattle.repro_laws.specs.Stage.{dep_text, out_text};
+ghost use Rattle.dvc_cli.specs.Plan.{is_changed, dep_of, out_of, looks_of, outs_of, stage_of, all_outs, stages_at, planned_at};
+
+use crate::by_text::{deps_by_text, outs_by_text};
+use dvc_base::{NoMemory, PathFault, Plain, Plural, Rel, Rels, Text};
+use path_index::PathIndex;
+use repro_laws::{Dep, Out, Stage, Stages};
+use std::alloc::Global;
+use template_expand::{Out as WrittenOut, Stage as Written};
+
+/// The stages at these places, in this order.
+pub(crate) fn planned(alloc: Global, written: &[Written], order: &[u32]) -> Result<Stages, NoMemory>
+    ensures exact { IfOk result (λ stages. stages ≡ planned_at written.now order.now) }
+{
+    let outs = all_outs(alloc, written)?;
+    let index = PathIndex::of(alloc, outs)?;
+    stages_at(alloc, written, order, &index)
+}
+
+fn all_outs(alloc: Global, written: &[Written]) -> Result<Rels, NoMemory>
+    ensures exact { IfOk result (λ paths. paths ≡ all_outs written.now) }
+{
+    let mut paths = Rels::new(alloc);
+    for stage in written {
+        push_outs(alloc, &mut paths, &stage.dir, stage.outs.as_slice())?;
+    }
+    Ok(paths)
+}
+
+fn push_outs(
+    alloc: Global,
+    paths: &mut Rels,
+    dir: &Rel,
+    outs: &[WrittenOut],
+) -> Result<(), NoMemory>
+    ensures ok { OnOk result (paths.new ≡ paths.old ++ map (λ out. path_from dir.now out.path) outs.now) }
+{
+    for out in outs {
+        paths.push(path_from(alloc, dir, &out.path)?)?;
+    }
+    Ok(())
+}
+
+fn stages_at(
+    alloc: Global,
+    written: &[Written],
+    order: &[u32],
+    outs: &PathIndex,
+) -> Result<Stages, NoMemory>
+    ensures exact { IfOk result (λ stages. stages ≡ map (stage_of outs.now) (stages_at written.now order.now)) }
+{
+    let mut stages = Stages::new(alloc);
+    for number in order {
+        push_stage(alloc, &mut stages, written, *number, outs)?;
+    }
+    Ok(stages)
+}
+
+fn push_stage(
+    alloc: Global,
+    stages: &mut Stages,
+    written: &[Written],
+    number: u32,
+    outs: &PathIndex,
+) -> Result<(), NoMemory>
+    ensures ok { OnOk result
+        (stages.new ≡ stages.old ++ map (stage_of outs.now) (stages_at written.now (number ∷ []))) }
+{
+    match written.get(number as usize) {
+        Some(stage) => {
+            let made = stage_of(alloc, stage, outs)?;
+            stages.push(made)?;
+            Ok(())
+        }
+        None => Ok(()),
+    }
+}
+
+fn stage_of(alloc: Global, stage: &Written, outs: &PathIndex) -> Result<Stage, NoMemory>
+    ensures exact { IfOk result (λ made. made ≡ stage_of outs.now stage.now) }
+{
+    let looks = looks_of(alloc, stage, outs)?;
+    let made = outs_of(alloc, stage)?;
+    stage_with(alloc, stage, looks, made)
+}
+
+fn stage_with(
+    alloc: Global,
+    stage: &Written,
+    looks: Plural<Dep>,
+    outs: Plural<Out>,
+) -> Result<Stage, NoMemory>
+    ensures exact { IfOk result (λ made. made ≡ record {
+      name = stage.now.name;
+      commands = stage.now.commands;
+      dir = stage.now.dir;
+      looks = looks;
+      deps = in_order dep_text looks;
+      params = [];
+      outs = outs;
+      made = in_order out_text outs;
+      always = is_changed stage.now;
+    }) }
+{
+    let made = outs_by_text(alloc, outs.as_slice())?;
+    let deps = deps_by_text(alloc, looks.as_slice())?;
+    Ok(Stage {
+        name: stage.name.copy(alloc)?,
+        commands: stage.commands.copy(alloc)?,
+        dir: stage.dir.copy(alloc)?,
+        looks,
+        deps,
+        params: Plural::new(alloc),
+        outs,
+        made,
+        always: is_changed(stage),
+    })
+}
+
+// Whether it always counts as changed: nothing tells whether a stage without dependencies would make something else.
+fn is_changed(stage: &Written) -> bool
+    ensures exact { result ≡ is_changed stage.now }
+{
+    stage.always || stage.deps.as_slice().is_empty()
+}
+
+// The dependencies as they are written.
+fn looks_of(alloc: Global, stage: &Written, outs: &PathIndex) -> Result<Plural<Dep>, NoMemory>
+    ensures exact { IfOk result (λ looks. looks ≡ looks_of outs.now stage.now) }
+{
+    let mut looks = Plural::new(alloc);
+    for text in stage.deps.as_slice() {
+        looks.push(dep_of(alloc, &stage.dir, text, outs)?)?;
+    }
+    Ok(looks)
+}
+
+fn dep_of(alloc: Global, dir: &Rel, text: &Text, outs: &PathIndex) -> Result<Dep, NoMemory>
+    ensures exact { IfOk result (λ dep. dep ≡ dep_of outs.now dir.now text.now) }
+{
+    let path = path_from(alloc, dir, text)?;
+    let inside = outs.has_around(&path);
+    Ok(Dep {
+        text: text.copy(alloc)?,
+        path,
+        inside,
+    })
+}
+
+// The outputs as they are written.
+fn outs_of(alloc: Global, stage: &Written) -> Result<Plural<Out>, NoMemory>
+    ensures exact { IfOk result (λ outs. outs ≡ outs_of stage.now) }
+{
+    let mut outs = Plural::new(alloc);
+    for out in stage.outs.as_slice() {
+        outs.push(out_of(alloc, &stage.dir, out)?)?;
+    }
+    Ok(outs)
+}
+
+fn out_of(alloc: Global, dir: &Rel, out: &WrittenOut) -> Result<Out, NoMemory>
+    ensures exact { IfOk result (λ made. made ≡ out_of dir.now out.now) }
+{
+    let path = path_from(alloc, dir, &out.path)?;
+    Ok(Out {
+        text: out.path.copy(alloc)?,
+        path,
+        cached: out.cached,
+    })
+}
+
+// The path that a text names; the root where it is none.
+fn path_from(alloc: Global, dir: &Rel, text: &Text) -> Result<Rel, NoMemory>
+    ensures named { IfOk result (λ path. path ≡ path_from dir.now text.now) }
+{
+    match dir.join(alloc, text.as_str()) {
+        Ok(path) => Ok(path),
+        Err(PathFault::NoMemory) => Err(NoMemory),
+        Err(_) => Ok(Rel::root(alloc)),
+    }
+}
