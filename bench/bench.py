@@ -14,8 +14,9 @@ import sys
 import tempfile
 from dataclasses import dataclass
 
-sys.path.insert(0, os.path.join(os.path.dirname(os.path.abspath(__file__)), "..", "checks"))
-from common import DVC, MIB, entry, lock, need_built, seconds, stage, stages, write  # noqa: E402
+HERE = os.path.dirname(os.path.abspath(__file__))
+sys.path.insert(0, os.path.join(HERE, "..", "checks"))
+from common import DVC, MIB, ROOM, entry, lock, need_built, seconds, stage, stages, write  # noqa: E402
 
 REPRO = [DVC, "repro"]
 
@@ -29,7 +30,7 @@ class Yardstick:
 
     def told(self):
         """The command as it is printed."""
-        text = self.words[2] if self.words[:2] == ("sh", "-c") else " ".join(self.words)
+        text = self.words[2] if self.words[:2] == ("sh", "-c") else " ".join(map(os.path.basename, self.words))
         return text if len(text) <= 60 else f"{text[:57]}.."
 
 
@@ -165,7 +166,48 @@ def long_locks(bench, folder):
         print(f"    {taken / first:.2f} times the run without a lock", flush=True)
 
 
-ROWS = [start_up, large_files, runs, skips, falling_order, long_locks]
+# What is put: how it is made, how its bytes are summed by hand, and how many runs are timed.
+PUTS = {
+    "a file of 1 GiB": ("head -c 1073741824 /dev/urandom > put", "md5sum put", 3),
+    "a folder of 100,000 files": (
+        "mkdir put; seq -f %099.0f 100000 | split -d -a 6 -l 1 - put/f", "find put -type f -print0 | xargs -0 md5sum", 1,
+    ),
+}
+
+
+def forget(folder):
+    """Removes the cache, and what the loop of one pass has put."""
+    for name in (".dvc", "one_pass"):
+        shutil.rmtree(os.path.join(folder, name), ignore_errors=True)
+
+
+def put(bench, folder, where, sync):
+    """Skips that put what is in no cache. They read it to name it, and again to put it; the loop of one pass reads it once."""
+    loop = (sys.executable, "-I", "-S", os.path.join(HERE, "one_pass.py"), *sync, "put", "one_pass")
+    for what, (made, summed, times) in PUTS.items():
+        with tempfile.TemporaryDirectory(dir=folder) as project:
+            write(project, "make", made + "\n")
+            write(project, "dvc.yaml", stages(stage("make", "sh make", ["make"], ["put"])))
+            settled(project)
+            yardsticks = [Yardstick(loop), Yardstick(("sh", "-c", summed))]
+            bench.row(f"a skip that puts {what}, {where}", project, yardsticks, times, functools.partial(forget, project))
+
+
+def puts(bench, folder):
+    """A file and a folder that are put on the disk, where each object is synced, and its folder."""
+    put(bench, folder, "on the disk, with syncs", ["--sync"])
+
+
+def puts_in_memory(bench, _):
+    """The same on a disk in memory, where a sync costs nothing; the loop makes none."""
+    if not ROOM or shutil.disk_usage(ROOM).free < 4096 * MIB:
+        print("puts in memory: no disk in memory has 4 GiB free here, so this was left out")
+        return
+    with tempfile.TemporaryDirectory(dir=ROOM) as folder:
+        put(bench, folder, "on a disk in memory, without syncs", [])
+
+
+ROWS = [start_up, large_files, runs, skips, falling_order, long_locks, puts, puts_in_memory]
 
 
 def main():

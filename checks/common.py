@@ -4,11 +4,13 @@ The programs are those that `rt ci` or `./demo` leaves in this clone; the enviro
 STAGE_TABLE name others. Under CI=true nothing is passed over: a check that lacks a tool fails.
 """
 import hashlib
+import json
 import os
 import shutil
 import stat
 import subprocess
 import sys
+import tempfile
 import time
 from dataclasses import dataclass
 
@@ -16,6 +18,8 @@ TOP = os.path.dirname(os.path.dirname(os.path.abspath(__file__)))
 MIB = 1 << 20
 # A folder in memory is as good as one on a disk where nothing is measured, and faster.
 ROOM = "/dev/shm" if os.access("/dev/shm", os.W_OK) else None
+# The folder of the lanes, and that of the objects.
+LANES, OBJECTS = ".dvc/tmp", ".dvc/cache/files/md5"
 
 
 def built(variable, crate):
@@ -84,19 +88,81 @@ def skips(name):
 
 
 def entry(name, command, deps, outs):
-    """The lines of one stage in `dvc.lock`, by its command, or a list of them, and the contents of its dependencies and outputs."""
+    """The lines of one stage in `dvc.lock`, by its command, or a list of them, and the values of its dependencies and outputs:
+    a file is its bytes, and a folder its files by their paths."""
     listed = isinstance(command, list)
     lines = [f"  {name}:\n    cmd:" + "".join(f"\n    - {one}" for one in command) if listed else f"  {name}:\n    cmd: {command}", "\n"]
     for key, paths in (("deps", deps), ("outs", outs)):
         lines.append(f"    {key}:\n")
-        for path, content in sorted(paths.items()):
-            lines.append(path_entry(path, hashlib.md5(content).hexdigest(), len(content)))
+        for path, value in sorted(paths.items()):
+            lines.append(value_entry(path, value))
     return "".join(lines)
 
 
-def path_entry(path, digest, size):
-    """The lines of a dependency or an output in `dvc.lock`."""
-    return f"    - path: {path}\n      hash: md5\n      md5: {digest}\n      size: {size}\n"
+def value_entry(path, value):
+    """The lines of a dependency or an output in `dvc.lock`, by its value."""
+    if isinstance(value, dict):
+        return path_entry(path, name_of(value), sum(len(content) for content in value.values()), len(value))
+    return path_entry(path, name_of(value), len(value))
+
+
+def path_entry(path, digest, size, nfiles=None):
+    """The lines of a dependency or an output in `dvc.lock`; a folder has a number of files."""
+    counted = "" if nfiles is None else f"      nfiles: {nfiles}\n"
+    return f"    - path: {path}\n      hash: md5\n      md5: {digest}\n      size: {size}\n{counted}"
+
+
+def listing(files):
+    """The text of a folder's listing: its files by the bytes of their paths."""
+    paths = sorted(files, key=str.encode)
+    return json.dumps([{"md5": name_of(files[path]), "relpath": path} for path in paths]).encode()
+
+
+def name_of(value):
+    """The name of a value: the MD5 of a file's bytes, and of a folder's listing with `.dir` behind it."""
+    if isinstance(value, dict):
+        return name_of(listing(value)) + ".dir"
+    return hashlib.md5(value).hexdigest()
+
+
+def object_path(name):
+    """Where the object of a name stands."""
+    return f"{OBJECTS}/{name[:2]}/{name[2:]}"
+
+
+def objects(value):
+    """The objects of a value by their places: a file's bytes, or a folder's listing and the bytes of its files."""
+    if not isinstance(value, dict):
+        return {object_path(name_of(value)): value}
+    found = {object_path(name_of(value)): listing(value)}
+    for content in value.values():
+        found |= objects(content)
+    return found
+
+
+def with_folders(found):
+    """Objects with the folders that they lie in."""
+    above = {os.path.dirname(path) for path in found}
+    return {folder: None for folder in (".dvc", ".dvc/cache", ".dvc/cache/files", OBJECTS, *above) if found} | found
+
+
+def is_whole(path, content):
+    """Whether bytes at an object's place are those that it is named by."""
+    name = path[len(OBJECTS) + 1:].replace("/", "")
+    return name.removesuffix(".dir") == hashlib.md5(content).hexdigest()
+
+
+def whole_objects(tree):
+    """The objects in a tree that have the bytes of their names."""
+    return {
+        path: content for path, content in tree.items()
+        if path.startswith(OBJECTS + "/") and isinstance(content, bytes) and is_whole(path, content)
+    }
+
+
+def beside_lanes(tree):
+    """What stands in a tree beside the lanes and their folder."""
+    return {path: content for path, content in tree.items() if path != LANES and not path.startswith(LANES + "/")}
 
 
 def lock(entries):
@@ -183,6 +249,29 @@ def repro(folder, words=("repro",), program=DVC, **how):
     how = {"stdout": subprocess.PIPE, "stderr": subprocess.PIPE, **how}
     done = subprocess.run([program, *words], cwd=folder, check=False, **how)
     return done.returncode, (done.stdout or b"").decode(), (done.stderr or b"").decode()
+
+
+def strace(folder, log, words):
+    """Runs the program under strace."""
+    return subprocess.run(["strace", "-o", log, *words, DVC, "repro"], cwd=folder, capture_output=True, check=False)
+
+
+def system_calls(prepare):
+    """The names of the system calls of a run, in order, from the first one of the program itself on, in a folder that is prepared."""
+    with tempfile.TemporaryDirectory(dir=ROOM) as room:
+        folder, log = os.path.join(room, "project"), os.path.join(room, "log")
+        os.mkdir(folder)
+        prepare(folder)
+        expect("the traced run", strace(folder, log, []).returncode, 0)
+        lines = read(room, "log").decode(errors="replace").splitlines()
+    names = [line.split("(")[0] for line in lines if line[:1].isalpha() and "(" in line]
+    return [name for name in names[1:] if name != "exit_group"]
+
+
+def stopping(calls, place):
+    """The words by which strace stops a run at one of its system calls."""
+    name = calls[place]
+    return ["-e", f"inject={name}:signal=KILL:when={calls[:place + 1].count(name)}"]
 
 
 def seconds(words, folder, statuses=(0,)):

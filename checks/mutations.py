@@ -23,7 +23,7 @@ import tempfile
 import time
 
 from common import DVC, RECORD_TABLE, ROOM, another_user, expect, need_built, passed_over, plant, planted, reached, shown, write
-from texts import DONE, LOCKS, PUBLISHED, SKIP, SORTED, SPELLINGS, table
+from texts import DONE, GRAPH, LOCKS, PUBLISHED, SKIP, SORTED, SPELLINGS, table
 
 COUNT = 10_000
 # How many texts one process tries in a row.
@@ -42,7 +42,7 @@ KINDS = [("dvc.yaml", YAML_TEXTS), ("dvc.lock", LOCK_TEXTS)] * 3 + [("dvc.lock",
 WORDS = (
     b"cmd deps outs params wdir metrics plots frozen always_changed vars foreach do matrix desc meta path hash md5 size nfiles cache "
     b"persist push remote schema stages isexec null [] {} 1 -1 0x10 1e3 1.5 true false 'x' \"y\" words sorted notes published . .. ../out "
-    b"data/in s3://in ${a} [words] {a: b} 18446744073709551616 2.0 '' 900150983cd24fb0d6963f7d28e17f72.dir"
+    b"data/in sorted/in .dvc params.yaml s3://in ${a} [words] {a: b} 18446744073709551616 2.0 '' 900150983cd24fb0d6963f7d28e17f72.dir"
 ).split(b" ")
 # Bytes that mean something in YAML, or that no text may have.
 TELLING = b"\n\r\t :-'\"[]{}#&*!|>%@`,?~\\=<0129eE+./x\x00\x7f\xff\xc3\xe2"
@@ -125,10 +125,11 @@ REFUSALS = {
     "left out": r"'dvc\.(yaml|lock)': '.*' is not supported",
     "an older format": r"'dvc\.lock' has an older format",
     "no path": r"'.*' is not a path of the workspace",
+    "no graph": GRAPH,
     "not built": r"'dvc\.yaml' is not supported yet",
 }
 # A fault of a turn, before which commands may have run.
-TURNS = r"stage '.*'(: missing (dependency|output) '.*'| failed with -?\d+)|'.*' is not supported yet|a file or program call failed"
+TURNS = r"stage '.*'(: missing (dependency|output) '.*'| failed with -?\d+)|'.*' is not a folder|a file or program call failed"
 
 
 def kind_of(status, told):

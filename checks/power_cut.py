@@ -7,7 +7,8 @@ cleared path) is still so once the program has gone on; all that isn't the tool'
 leaves what an undisturbed one leaves. That next run is recorded and cut in the same way, once more.
 
 At the end each sync that puts something on the disk is taken out of the records by itself, as if the program had not made
-it: that has to be noticed each time, and there has to be one of each kind (SITES). `.ci/run` runs this after the gate; DVC names another program than the one of this clone.
+it: that has to be noticed each time, and there has to be one of each kind (SITES). `.ci/run` runs this after the gate; DVC
+names another program than the one of this clone.
 """
 import collections
 import concurrent.futures
@@ -17,26 +18,55 @@ import tempfile
 import time
 from dataclasses import dataclass, field
 
-from common import DVC, ROOM, Link, entry, expect, has_tool, lock, need_built, plant, planted, repro, stage, stages
+from common import (
+    DVC, LANES, OBJECTS, ROOM, Link, entry, expect, has_tool, is_whole, lock, name_of, need_built, object_path, objects, plant, planted,
+    repro, stage, stages, whole_objects, with_folders,
+)
 from recorder import Change, record
 from stated_disk import Disk
 
 LOCK = "dvc.lock"
+# The cache is the tool's with all that lies in it, as the folder of the lanes is.
+CACHE = ".dvc/cache"
+
+
+def is_in(folder, path):
+    """Whether a path is a folder or lies in it."""
+    return path == folder or path.startswith(folder + "/")
+
+
+# What stands in the place of what isn't there, where a project's start is told.
+GONE = b"gone: \0"
 
 
 @dataclass(frozen=True)
 class Stage:
-    """A stage with what its command makes of the files that it reads."""
+    """A stage with what its command makes of the values that it reads."""
 
     name: str
     command: str
     deps: tuple
     makes: dict
 
-    def entry(self, files):
-        """Its lines in the lock, where these files stand."""
-        deps, outs = ({path: files[path] for path in paths} for paths in (self.deps, self.makes))
+    def entry(self, values):
+        """Its lines in the lock, where these values stand."""
+        deps, outs = ({path: values[path] for path in paths} for paths in (self.deps, self.makes))
         return entry(self.name, self.command, deps, outs)
+
+
+def spread(values):
+    """The tree of these values: a file's bytes stand at its path, and a folder's files below it, each folder named too."""
+    tree = {}
+    for path, value in values.items():
+        if not isinstance(value, dict):
+            tree[path] = value
+            continue
+        tree[path] = None
+        for name, content in value.items():
+            parts = name.split("/")
+            tree |= {"/".join([path, *parts[:count]]): None for count in range(1, len(parts))}
+            tree[f"{path}/{name}"] = content
+    return tree
 
 
 def copy(name, source, target):
@@ -56,27 +86,45 @@ class Project:
     more: dict = field(default_factory=dict)
     # Files that the user removed just before, so that they may come back.
     removed: dict = field(default_factory=dict)
+    # How many of the disks that a cut leaves are gone on with, evenly spread; none: all.
+    most: int | None = None
 
     def __post_init__(self):
         self.outs = {out for one in self.plan for out in one.makes}
         yaml = stages(*(stage(one.name, one.command, one.deps, one.makes) for one in self.plan))
-        old_files, old_book = self.after(len(self.plan), self.before, {}) if self.before else ({}, {})
-        start = {**old_files, **self.inputs, "dvc.yaml": yaml.encode()}
+        old_values, old_book = self.after(len(self.plan), self.before, {}) if self.before else ({}, {})
+        start = {**spread(old_values), **self.inputs, "dvc.yaml": yaml.encode()}
         if old_book:
-            start |= {LOCK: lock(old_book.values()).encode(), ".dvc": None, ".dvc/tmp": None}
-        self.start = {path: content for path, content in {**start, **self.more}.items() if path not in self.removed}
+            start |= {LOCK: lock(old_book.values()).encode(), ".dvc": None, ".dvc/tmp": None} | self.cached(old_values)
+        start = {path: content for path, content in {**start, **self.more}.items() if path not in self.removed}
+        self.start = {path: content for path, content in start.items() if content != GONE}
         turns = [self.after(count, self.inputs, old_book) for count in range(len(self.plan) + 1)]
+        self.held = {lock(book.values()).encode(): self.put(count, values) for count, (values, book) in enumerate(turns) if book}
         self.locks = [lock(book.values()).encode() for _, book in turns if book] + [self.start.get(LOCK)]
-        files, book = turns[-1]
-        self.wanted = {**{out: files[out] for out in self.outs}, LOCK: lock(book.values()).encode()}
+        values, book = turns[-1]
+        made = {out: values[out] for out in self.outs}
+        self.wanted = {**spread(made), **self.cached(values), LOCK: lock(book.values()).encode()}
+        # What is cleared before something is put there.
+        self.cleared = self.outs | {path for path in self.wanted if is_in(OBJECTS, path)}
+
+    def put(self, count, values):
+        """The objects that the first so many stages have put, when their entries stand in the lock."""
+        found = {}
+        for out in {out for one in self.plan[:count] for out in one.makes}:
+            found |= objects(values[out])
+        return found
+
+    def cached(self, values):
+        """The objects of all outputs, and the folders that they lie in."""
+        return with_folders(self.put(len(self.plan), values))
 
     def after(self, count, inputs, book):
-        """The files and the lock's entries after the turns of so many stages."""
-        files, book = dict(inputs), dict(book)
+        """The values and the lock's entries after the turns of so many stages."""
+        values, book = dict(inputs), dict(book)
         for one in self.plan[:count]:
-            files |= {out: make(files) for out, make in one.makes.items()}
-            book[one.name] = one.entry(files)
-        return files, book
+            values |= {out: make(values) for out, make in one.makes.items()}
+            book[one.name] = one.entry(values)
+        return values, book
 
     def disk(self, tree):
         """The disk on which a run begins, in the tree of the project's start or in one that a power cut has left."""
@@ -84,7 +132,7 @@ class Project:
 
     def is_own(self, path):
         """Whether the tool or a command may change the path."""
-        return path in (LOCK, ".dvc", ".dvc/tmp") or path.startswith(".dvc/tmp/") or path.split("/")[0] in self.outs
+        return path in (LOCK, ".dvc") or is_in(LANES, path) or is_in(CACHE, path) or path.split("/")[0] in self.outs
 
     def spoilt(self, tree):
         """What is wrong with a tree that a power cut left, or none."""
@@ -93,11 +141,28 @@ class Project:
         for path in {*tree, *self.start}:
             if not self.is_own(path) and tree.get(path, "nothing") != self.start.get(path, "nothing"):
                 return f"{path} isn't as it was"
+        return self.lost(tree)
+
+    def lost(self, tree):
+        """What is wrong with the cache that a power cut left, or none."""
+        whole = whole_objects(tree)
+        if not whole_objects(self.start).items() <= whole.items():
+            return "a whole object is lost"
+        for path, content in tree.items():
+            is_object = is_in(CACHE, path) and isinstance(content, bytes)
+            if is_object and content != self.start.get(path) and not is_whole(path, content):
+                return "an object is neither old nor whole"
+        if tree.get(LOCK) != self.start.get(LOCK) and not self.held[tree[LOCK]].items() <= whole.items():
+            return "the lock is new, and not all that it names is in the cache"
         return None
 
 
 SPLIT = Stage("split", "sh halves", ("halves", "in"), {"one": lambda files: files["in"], "two": lambda files: b"12"})
 HALVES = b"cat in > one\nprintf 1 > two\nprintf 2 >> two\n"
+# A folder of two files. With `-p`, mkdir would go into folders, which records don't follow.
+FILL = b"mkdir data data/sub\ncat in > data/a\nprintf c > data/sub/c\n"
+FOLDER = Stage("fill", "sh fill", ("fill", "in"), {"data": lambda values: {"a": values["in"], "sub/c": b"c"}})
+USE = Stage("use", "cat data/a data/sub/c > total", ("data",), {"total": lambda values: values["data"]["a"] + b"c"})
 FIRST, MIDDLE, LAST = copy("first", "in", "mid"), copy("middle", "mid", "next"), copy("last", "next", "out")
 ONE = [copy("copy", "in", "out")]
 OLD, NEW = {"in": b"abc"}, {"in": b"another"}
@@ -115,6 +180,12 @@ PROJECTS = [
     Project("a folder at an output", ONE, OLD, NEW, {"out": None, "out/deep": None, "out/deep/file": b"x", "out/y": b"y"}),
     Project("an output removed just before", ONE, OLD, NEW, removed={"out": b"abc"}),
     Project("a link at an output", ONE, OLD, NEW, {"out": Link("kept"), "kept": b"kept"}),
+    Project("a folder, and a stage that reads it", [FOLDER, USE], {**OLD, "fill": FILL}, {**NEW, "fill": FILL}, most=100),
+    Project("a skip that puts what is gone", ONE, OLD, OLD, {object_path(name_of(b"abc")): GONE}),
+    Project("a skip that puts what is spoilt", ONE, OLD, OLD, {object_path(name_of(b"abc")): b"abd"}),
+    Project("a skip that finds a folder at an object", ONE, OLD, OLD, {
+        object_path(name_of(b"abc")): None, object_path(name_of(b"abc")) + "/deep": b"left",
+    }),
 ]
 
 
@@ -136,11 +207,11 @@ class Promises:
 
     def promised(self, change, before):
         """What a deed of the program promises, by path, with what stood at the path before it or stands there now."""
-        if change.kind == "rename" and change.target == LOCK:
-            return {LOCK: ("published", self.disk.find(LOCK))}
+        if change.kind == "rename" and not is_in(LANES, change.target):
+            return {change.target: ("published", self.disk.find(change.target))}
         if change.kind == "folder":
             return {change.path: ("made", self.disk.find(change.path))}
-        if change.kind == "remove" and change.path in self.project.outs:
+        if change.kind == "remove" and change.path in self.project.cleared:
             return {change.path: ("cleared", before)}
         self.said += change.data if change.kind == "line" else b""
         if change.kind == "start":
@@ -255,22 +326,29 @@ def next_run(number, image):
 def site(project, changes, place):
     """What kind of sync this is, by the program's last change in the folder that it is of."""
     path = changes[place].path
-    if path.startswith(".dvc/tmp/"):
+    if path != LANES and is_in(LANES, path):
         return "the lane"
     for change in reversed(changes[:place]):
         at = change.target or change.path
         if change.own and change.kind == "sync" and at == path:
             break
         if change.own and (os.path.dirname(at) or ".") == path and change.kind in ("rename", "folder"):
-            return f"the folder of {at}, once it is {'published' if change.kind == 'rename' else 'made'}"
+            return f"the folder of {named(at)}, once it is {'published' if change.kind == 'rename' else 'made'}"
         if change.own and (os.path.dirname(at) or ".") == path and change.kind == "remove" and at not in project.outs:
-            return f"the folder of {at}, once it is removed"
+            return f"the folder of {named(at)}, once it is removed"
     return "the folder of an output, once it is cleared" if path == "." else path
+
+
+def named(path):
+    """A path as the kinds of syncs name it: what lies in the cache has no name of its own."""
+    return "what is cached" if path != CACHE and is_in(CACHE, path) else path
 
 
 SITES = [
     "the lane", "the folder of dvc.lock, once it is published", "the folder of .dvc, once it is made",
     "the folder of .dvc/tmp, once it is made", "the folder of an output, once it is cleared",
+    "the folder of what is cached, once it is published", "the folder of what is cached, once it is made",
+    "the folder of what is cached, once it is removed",
 ]
 
 
@@ -331,10 +409,16 @@ def by_kind(faults):
 
 
 def new_images(seen, looks):
-    """The trees that no earlier cut left, each with its project's number."""
+    """The trees that no earlier cut left, each with its project's number; of some projects a part of them."""
     found = sorted({(number, image) for number, one in looks for image in one.images} - seen, key=repr)
     seen.update(found)
-    return found
+    return [pair for number in range(len(PROJECTS)) for pair in spread_out(number, [pair for pair in found if pair[0] == number])]
+
+
+def spread_out(number, found):
+    """Those of a project's trees that are gone on with."""
+    step = -(-len(found) // (PROJECTS[number].most or len(found) or 1))
+    return found[::step or 1]
 
 
 def main():

@@ -6,12 +6,13 @@ full disk, two runs at once, and a stop at each system call. `.ci/run` runs this
 than the one of this clone, and words name single checks (CHECKS, at the end). The first failure ends the script with a line
 that says what was expected.
 """
+import collections
 import contextlib
+import itertools
 import os
 import pty
 import re
 import resource
-import shutil
 import signal
 import stat
 import subprocess
@@ -21,8 +22,8 @@ import termios
 import time
 
 from common import (
-    DVC, MIB, another_user, entry, expect, has_tool, lock, need_built, passed_over, path_entry, plant, planted, reached, read,
-    repro, runs, shown, skips, stage, stages, write,
+    DVC, MIB, another_user, entry, expect, has_tool, lock, name_of, need_built, object_path, objects, passed_over, path_entry, plant,
+    planted, reached, read, repro, runs, shown, skips, stage, stages, stopping, strace, system_calls, with_folders, write,
 )
 
 FIRST = stage("first", "cp in mid", ["in"], ["mid"])
@@ -58,8 +59,9 @@ def old_entry(name="copy", out="out"):
     return entry(name, "cp in out", {"in": b"abc"}, {out: b"abc"})
 
 
-# A project in which a run is due: its input was edited.
+# A project in which a run is due: its input was edited. And one in which nothing is due, and the output is in the cache.
 DUE = {"dvc.yaml": COPY, "in": b"new", "out": b"abc", "dvc.lock": lock([old_entry()])}
+DONE = {**DUE, "in": b"abc", **with_folders(objects(b"abc"))}
 
 
 def choices():
@@ -90,12 +92,11 @@ def untouched(what, tree, wanted, **how):
 def refusals():
     """Files that are refused: nothing is touched. What else is refused, and with what words, is tried by texts.py."""
     good, many = lock([old_entry()]), long_lock()
-    not_built = "'dvc.yaml' is not supported yet"
     bad = {
         "dvc.yaml": [
             (stages(FIRST, FIRST), "'dvc.yaml' line 8: duplicate key"),
-            (stages(FIRST, stage("last", "cp in mid", ["in"], ["mid"])), not_built),
-            (stages(stage("last", "cp mid out", ["mid"], ["out"]), FIRST), not_built),
+            (stages(FIRST, stage("last", "cp in mid", ["in"], ["mid"])), "'mid' is an output of 'first' and 'last'"),
+            (stages(stage("last", "cp mid in", ["mid"], ["in"]), FIRST), "cycle: last <- first <- last"),
             (bytes(range(256)), "'dvc.yaml' line 1: syntax"),
         ],
         "dvc.lock": [
@@ -246,8 +247,7 @@ def closing(*numbers):
 
 def streams():
     """Outputs that are closed or full: the status and the line tell it, and nothing is touched."""
-    skipped = {**DUE, "in": b"abc"}
-    for tree in (DUE, skipped):
+    for tree in (DUE, DONE):
         with open("/dev/full", "wb") as full:
             untouched("a full output", tree, (255, "", OUT_FAILED), stdout=full)
             untouched("a full output and error output", tree, (255, "", ""), stdout=full, stderr=full)
@@ -300,7 +300,7 @@ UNWRITABLE = {
 
 
 def forbidden():
-    """What a user may not touch is told, before the command has run; a skip writes nothing."""
+    """What a user may not touch is told, before the command has run; a skip writes nothing, where its outputs are in the cache."""
     user = another_user()
     if user is None:
         passed_over("real files: permissions", "the superuser can't become another user here")
@@ -308,7 +308,7 @@ def forbidden():
     for what, script in FORBIDDEN.items():
         stays_as_it_was(what, script, user)
     with tempfile.TemporaryDirectory() as room:
-        folder = given_to(user, room, {**DUE, "in": b"abc"})
+        folder = given_to(user, room, DONE)
         subprocess.run(["sh", "-ec", "chmod 555 ."], cwd=folder, check=True, **user)
         expect("a skip where nothing may be written", repro(folder, program=reached(room), **user), (0, skips("copy"), ""))
 
@@ -475,10 +475,11 @@ def before_publish():
     if not has_tool("real files: a run that is held", "strace"):
         return
     yaml = stages(stage("copy", "sh work", ["in"], ["out"]))
-    for what, (script, status, left) in HELD.items():
+    # The first lane holds the output on its way to the cache, the second one the lock.
+    for (what, (script, status, left)), place in itertools.product(HELD.items(), (1, 2)):
         with tempfile.TemporaryDirectory() as folder:
             plant(folder, {**DUE, "dvc.yaml": yaml, "work": "cp in out\n", ".dvc": None, ".dvc/tmp": None})
-            with held(folder, "fsync", ".dvc/tmp/new-0") as first:
+            with held(folder, "fsync", ".dvc/tmp/new-0", place) as first:
                 write(folder, "work", script)
                 expect(f"the status of {what} beside a run that is held", repro(folder)[0], status)
             text = read(folder, "dvc.lock").decode()
@@ -489,11 +490,43 @@ def before_publish():
             expect(f"what it leaves after one that was held beside {what}", read(folder, "out"), b"new")
 
 
+# The folders that the program makes, and what stands above each.
+MADE = {".dvc": {}, ".dvc/tmp": {".dvc": None}}
+
+
+def made_meanwhile():
+    """Another process makes a folder after the program has looked for it, at each of its looks: the run goes on."""
+    if not has_tool("real files: a folder that is made meanwhile", "strace"):
+        return
+    for path, more in MADE.items():
+        with tempfile.TemporaryDirectory() as folder:
+            plant(folder, {**DUE, **more})
+            log = os.path.join(folder, "log")
+            expect(f"a run that looks for {path}", strace(folder, log, ["-P", f"./{path}"]).returncode, 0)
+            looks = len(re.findall(rb"^statx\(", read(folder, "log"), re.M))
+        met = [meets_made(path, more, look) for look in range(1, looks + 1)]
+        expect(f"whether {path} was to be made where it stood already", any(met), True)
+
+
+def meets_made(path, more, look):
+    """A run that is held after a look for a folder, which is made then: whether it tried to make the folder too."""
+    with tempfile.TemporaryDirectory() as folder:
+        plant(folder, {**DUE, **more})
+        with held(folder, "statx", path, look) as run:
+            os.makedirs(os.path.join(folder, path), exist_ok=True)
+        what = f"where {path} is made after look {look}"
+        expect(f"the status {what}", run.returncode, 0)
+        expect(f"what is left {what}", (read(folder, "out"), repro(folder)), (b"new", (0, skips("copy"), "")))
+        return re.search(rb'mkdir\("[^"]*", \w+\) += -1 EEXIST', read(folder, "log")) is not None
+
+
 @contextlib.contextmanager
-def held(folder, call, path):
-    """A run that is stopped once it has made a call on a file, and goes on to its end when it is let go."""
+def held(folder, call, path, when=1):
+    """A run that is stopped once it has made so many calls on a file, and goes on to its end when it is let go."""
     log, place = os.path.join(folder, "log"), os.path.join(os.path.realpath(folder), path)
-    words = ["strace", "-f", "-o", log, "-P", place, "-e", f"inject={call}:signal=STOP:when=1", DVC, "repro"]
+    # A call names the file by its number, or by its path from the project.
+    words = ["strace", "-f", "-o", log, "-P", place, "-P", f"./{path}"]
+    words += ["-e", f"inject={call}:signal=STOP:when={when}", DVC, "repro"]
     with subprocess.Popen(words, cwd=folder, stdout=subprocess.DEVNULL, stderr=subprocess.DEVNULL) as run:
         number = stopped(folder)
         try:
@@ -520,23 +553,47 @@ def until(path):
         time.sleep(0.01)
 
 
+# The object of the output that is made of a MiB of zeros.
+OBJECT = object_path(name_of(bytes(MIB)))
+
+
 def calls():
-    """A line is put by one system call, and a file that is named is opened once, however long it is."""
+    """A line is put by one system call. A file that is named is opened once, however long it is. Of an output that a run makes each
+    byte is read twice, to name it and to copy it; and a skip reads each byte of an output and of its object once."""
     if not has_tool("real files: calls", "strace"):
         return
     with tempfile.TemporaryDirectory() as folder:
         plant(folder, {**DUE, "in": bytes(MIB)})
-        # The output that stands is named, and then the one that the command has made.
-        for lines, opened_outs in ((COPY_LINES, 2), (skips("copy"), 1)):
+        # The output that stands is named too where a run is due.
+        old = len(DUE["out"])
+        wanted = [
+            (COPY_LINES, {"in": MIB, "out": old + 2 * MIB, OBJECT: 0}), (skips("copy"), {"in": MIB, "out": MIB, OBJECT: MIB}),
+        ]
+        for lines, sizes in wanted:
             log = os.path.join(folder, "log")
-            done = strace(folder, log, ["-e", "trace=open,openat,write", "-s", "1000"])
+            done = strace(folder, log, ["-e", "trace=open,openat,read,write,close", "-s", "1000"])
             expect("a traced run", (done.returncode, done.stdout.decode()), (0, lines))
             traced = read(folder, "log").decode(errors="replace")
             puts = re.findall(r'^write\(1, "(.*)", \d+\)', traced, re.M)
             expect("puts that are no whole lines", [text for text in puts if not text.endswith(r"\n")], [])
-            for name, wanted in (("in", 1), ("out", opened_outs)):
-                opens = re.findall(rf'^open.*"(?:\./)?{name}", .*O_RDONLY.* = \d+$', traced, re.M)
-                expect(f"how often {name} is opened where the lines are {lines!r}", len(opens), wanted)
+            opens, got = readings(traced)
+            for name, size in sizes.items():
+                expect(f"how much is read of {name} where the lines are {lines!r}", got[name], size)
+            expect(f"how often what is named alone is opened where the lines are {lines!r}", opens["in"], 1)
+
+
+def readings(traced):
+    """How often each file is opened to be read, and how many bytes of it are read, by the log of a traced run."""
+    opens, got, names = collections.Counter(), collections.Counter(), {}
+    for call, told, name, number in re.findall(r'^(\w+)\((?:AT_FDCWD, )?(\d*)(?:"([^"]*)", .*O_RDONLY)?.* = (\d+)$', traced, re.M):
+        if name:
+            names[number] = name.removeprefix("./")
+            opens[names[number]] += 1
+        elif call == "read":
+            got[names.get(told)] += int(number)
+        elif call == "close":
+            names.pop(told, None)
+    return opens, got
 
 
 def stops():
@@ -545,12 +602,11 @@ def stops():
         return
     yaml = stages(FIRST, stage("last", "cp mid out", ["mid"], ["out"]))
     wanted, locks = undisturbed(yaml)
-    calls = system_calls(yaml)
+    calls = system_calls(lambda folder: prepare(folder, yaml))
     for place, name in enumerate(calls):
         with tempfile.TemporaryDirectory() as folder:
             prepare(folder, yaml)
-            stop = f"inject={name}:signal=KILL:when={calls[:place + 1].count(name)}"
-            done = strace(folder, os.devnull, ["-e", stop])
+            done = strace(folder, os.devnull, stopping(calls, place))
             what = f"a stop at system call {place}, {name}"
             expect(what, done.returncode == 0, False)
             if read(folder, "dvc.lock") not in locks:
@@ -558,22 +614,6 @@ def stops():
             expect(f"the run after {what}", repro(folder)[0::2], (0, ""))
             expect(f"what it leaves after {what}", {name: read(folder, name) for name in wanted}, wanted)
     print(f"real files: stopped at each of {len(calls)} system calls", flush=True)
-
-
-def strace(folder, log, words):
-    """Runs the program under strace."""
-    return subprocess.run(["strace", "-o", log, *words, DVC, "repro"], cwd=folder, capture_output=True, check=False)
-
-
-def system_calls(yaml):
-    """The names of the system calls of a run, in order, from the first one of the program itself on."""
-    with tempfile.TemporaryDirectory() as folder:
-        prepare(folder, yaml)
-        log = os.path.join(folder, "log")
-        expect("the traced run", strace(folder, log, []).returncode, 0)
-        lines = read(folder, "log").decode(errors="replace").splitlines()
-    names = [line.split("(")[0] for line in lines if line[:1].isalpha() and "(" in line]
-    return [name for name in names[1:] if name != "exit_group"]
 
 
 def prepare(folder, yaml):
@@ -598,7 +638,7 @@ def undisturbed(yaml):
 
 CHECKS = [
     choices, refusals, long_locks, large_file, command_lines, memory, printing, long_lines, streams, forbidden, unwritable,
-    full_disk, two_at_once, one_of_two_fails, before_publish, calls, stops,
+    full_disk, two_at_once, one_of_two_fails, before_publish, made_meanwhile, calls, stops,
 ]
 
 

@@ -68,9 +68,14 @@ def lock_line(outcome):
     return f"ERROR: 'dvc.lock': {words.removeprefix('not supported: ')} is not supported"
 
 
+# What the graph of the stages refuses.
+GRAPH = (
+    r"'.*' has a reserved name|'.*' overlaps '.*'|'.*' is an output of '.*' and '.*'|outputs '.*' and '.*' overlap"
+    r"|variables in '.*' come from output '.*'|cycle: .* <- .*"
+)
 # What a good `dvc.yaml` of the table may still come to: what its commands and paths name isn't there.
 GOOD = (
-    r"|ERROR: ('dvc\.yaml' is not supported yet|'.*' is not a path of the workspace"
+    rf"|ERROR: ('dvc\.yaml' is not supported yet|'.*' is not a path of the workspace|{GRAPH}"
     r"|stage '.*'(: missing (dependency|output) '.*'| failed with (127|2)))"
 )
 NO_NODE = r"ERROR: 'dvc\.yaml' line \d+: (syntax|duplicate key|too deep|number too wide)"
@@ -288,20 +293,24 @@ REFUSED_YAML = [
     ("vars: [{a: 1}]\n", NOT_BUILT),
     ("stages: {copy: {foreach: [a], do: {cmd: c}}}\n", NOT_BUILT),
     ("stages: {copy: {matrix: {a: [b]}, cmd: c}}\n", NOT_BUILT),
-    ("stages: {copy: {cmd: c, deps: [data/in]}}\n", NOT_BUILT),
-    ("stages: {copy: {cmd: c, wdir: data}}\n", NOT_BUILT),
     ("stages: {copy: {cmd: c, params: [a]}}\n", NOT_BUILT),
     ("stages: {copy: {cmd: c, metrics: [m]}}\n", NOT_BUILT),
     ("stages: {copy: {cmd: c, plots: [p]}}\n", NOT_BUILT),
     ("stages: {copy: {cmd: c, outs: [{out: {cache: false}}]}}\n", NOT_BUILT),
     ("stages: {copy: {cmd: c, frozen: true}}\n", NOT_BUILT),
-    ("stages: {copy: {cmd: c, always_changed: true}}\n", NOT_BUILT),
-    ("stages: {copy: {cmd: c, deps: [dvc.lock]}}\n", NOT_BUILT),
-    ("stages: {copy: {cmd: c, outs: [dvc.yaml]}}\n", NOT_BUILT),
-    ("stages: {copy: {cmd: c, outs: [.dvc]}}\n", NOT_BUILT),
-    ("stages: {copy: {cmd: c, deps: [in], outs: [in]}}\n", NOT_BUILT),
-    ("stages: {a: {cmd: c, outs: [out]}, b: {cmd: c, outs: [./out]}}\n", NOT_BUILT),
-    ("stages: {a: {cmd: c, deps: [out]}, b: {cmd: c, outs: [out]}}\n", NOT_BUILT),
+    ("stages: {copy: {cmd: c, deps: [dvc.lock]}}\n", "'dvc.lock' has a reserved name"),
+    ("stages: {copy: {cmd: c, deps: [.]}}\n", "'.' overlaps '.dvc'"),
+    ("stages: {copy: {cmd: c, wdir: .dvc/tmp}}\n", "'.dvc/tmp' overlaps '.dvc'"),
+    ("stages: {copy: {cmd: c, outs: [dvc.yaml]}}\n", "'dvc.yaml' has a reserved name"),
+    ("stages: {copy: {cmd: c, outs: [.dvc]}}\n", "'.dvc' has a reserved name"),
+    ("stages: {copy: {cmd: c, outs: [.dvcignore]}}\n", "'.dvcignore' has a reserved name"),
+    ("stages: {copy: {cmd: c, outs: [data/in.dvc]}}\n", "'data/in.dvc' has a reserved name"),
+    ("stages: {copy: {cmd: c, outs: [params.yaml]}}\n", "variables in 'params.yaml' come from output 'params.yaml'"),
+    ("stages: {copy: {cmd: c, deps: [in], outs: [in]}}\n", "cycle: copy <- copy"),
+    ("stages: {copy: {cmd: c, deps: [data], outs: [data/out]}}\n", "cycle: copy <- copy"),
+    ("stages: {a: {cmd: c, outs: [out]}, b: {cmd: c, outs: [./out]}}\n", "'out' is an output of 'a' and 'b'"),
+    ("stages: {a: {cmd: c, outs: [out]}, b: {cmd: c, wdir: out, outs: [in/out]}}\n", "outputs 'out' and 'out/in/out' overlap"),
+    ("stages: {a: {cmd: c, deps: [p], outs: [q]}, b: {cmd: c, deps: [q/r], outs: [p]}}\n", "cycle: a <- b <- a"),
     ("stages:\n" + "".join(f"  s{number}: {{cmd: c}}\n" for number in range(10_001)), "limit 10000 passed"),
 ]
 NO_HASH = LOCK.replace("      hash: md5\n", "", 1)
@@ -333,11 +342,16 @@ ORDER = [
     ({"dvc.yaml": b"stages: ["}, "'dvc.yaml' line 1: syntax"),
     ({"dvc.lock": b"stages: ["}, "'dvc.lock' line 1: syntax"),
     ({"dvc.lock": NO_HASH}, "'dvc.lock' has an older format"),
-    ({"dvc.yaml": b"stages: {a: {cmd: c, deps: [data/in, ../in]}, b: {}}"}, "'dvc.yaml': bad value at 'stages.b.cmd'"),
-    ({"dvc.yaml": b"stages: {a: {cmd: c, deps: [data/in]}, b: {cmd: c, deps: [../in], outs: [../out]}}"}, "'../out' is not a path of the workspace"),
-    ({"dvc.yaml": b"stages: {a: {cmd: c, deps: [data/in]}, b: {cmd: c, deps: [../in]}}"}, "'../in' is not a path of the workspace"),
-    ({"dvc.yaml": b"stages: {a: {cmd: c, deps: [missing]}, b: {cmd: c, deps: [data/in]}}"}, NOT_BUILT),
-    ({"dvc.yaml": b"stages: {a: {cmd: c, deps: [missing]}}"}, "stage 'a': missing dependency 'missing'"),
+    ({"dvc.yaml": b"stages: {a: {cmd: c, deps: [../in], outs: [.dvc]}, b: {}}"}, "'dvc.yaml': bad value at 'stages.b.cmd'"),
+    ({"dvc.yaml": b"stages: {a: {cmd: c, outs: [.dvc]}, b: {cmd: c, deps: [../in], outs: [../out]}}"}, "'../out' is not a path of the workspace"),
+    ({"dvc.yaml": b"stages: {a: {cmd: c, outs: [.dvc]}, b: {cmd: c, deps: [../in]}}"}, "'../in' is not a path of the workspace"),
+    ({"dvc.yaml": b"stages: {a: {cmd: c, outs: [out]}, b: {cmd: c, outs: [out, .dvc]}}"}, "'.dvc' has a reserved name"),
+    ({"dvc.yaml": b"stages: {a: {cmd: c, outs: [out, params.yaml]}, b: {cmd: c, outs: [out]}}"}, "'out' is an output of 'a' and 'b'"),
+    ({"dvc.yaml": b"stages: {a: {cmd: c, deps: [in], outs: [in, params.yaml]}}"}, "variables in 'params.yaml' come from output 'params.yaml'"),
+    ({"dvc.yaml": b"stages: {a: {cmd: c, deps: [in], outs: [in]}, b: {cmd: c, frozen: true}}"}, "cycle: a <- a"),
+    ({"dvc.yaml": b"stages: {a: {cmd: c, deps: [missing]}, b: {cmd: c, frozen: true}}"}, NOT_BUILT),
+    ({"dvc.yaml": b"stages: {a: {cmd: c, deps: [missing], outs: [notes/out]}}"}, "stage 'a': missing dependency 'missing'"),
+    ({"dvc.yaml": b"stages: {a: {cmd: c, deps: [notes], outs: [words/out]}}"}, "'words' is not a folder"),
 ]
 
 
