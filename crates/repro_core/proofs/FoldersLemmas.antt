@@ -2,6 +2,7 @@
 --     clear_.., folders_..       one output more is cleared, and one folder more is made
 --     ..._work                   they are moments before the lock is written
 --     roads_have, roads_..       no file stands on a road, and none comes there
+--     scratch_own                a lane is the tool's own
 --     given_kept, readied        what the job is given, and its folders
 use Rattle.std.proofs.Common.{◌≡◌, ◌≢◌, ℕ, ◌+◌, ◌<◌, Bool, true, false, cond, not, List, [], ◌∷◌, ◌++◌, length, map, take, get_or, inl, inr, refl, sym, ap, subst, ◌∙◌, append_assoc, append-nil, bytes_eq, Option, Some, None, Result, Ok, Err, OnOk}
 use Rattle.std.specs.Prelude.{option_map}
@@ -150,7 +151,7 @@ roads_kept : (roads : List Path) (t u : Tree) → ((q : Path) → is_on_any road
 roads_kept roads t u f have =
     each_both (λ road. (q : Path) → under q road ≡ true → is_on_any roads q ≡ true) (λ road. HasRoad road t) (λ road. HasRoad road u) roads (λ road on has q w. f q (on q w) (has q w)) (on_each roads) have
 
-scratch_own : (p : Path) → in_scratch p ≡ true → is_own p ≡ true
+pub scratch_own : (p : Path) → in_scratch p ≡ true → is_own p ≡ true
 scratch_own p h =
     or_left (under dvc_path p) (under lock_path p) (elim (or_cases (is_at dvc_path p) (under tmp_path p) h) [
       | inl at ↦ (and_parts (under dvc_path p) (under p dvc_path) at).0

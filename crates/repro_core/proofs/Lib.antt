@@ -15,6 +15,7 @@ pub mod OneStageLemmas
 pub mod RunLemmas
 pub mod TurnedLemmas
 pub mod FoldersLemmas
+pub mod LaneFirstLemmas
 mod JoinLemmas
 pub mod OutcomeLemmas
 pub mod RoadsLemmas

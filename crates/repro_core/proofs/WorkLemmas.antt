@@ -6,8 +6,8 @@
 --     works_.., still_then_works      the same, where the job has run, or not
 --     passes_work, passes_works, passes_still     over histories: one call more
 --     work_of_made, folder_made       folders that are made on ways
---     own_outside, own_no_way         the tool's own paths are neither in an output nor on a way
-use Rattle.std.proofs.Common.{◌≡◌, ◌≢◌, ◌⊎◌, ℕ, Bool, true, false, ◌||◌, List, [], ◌∷◌, ◌++◌, map, inl, inr, refl, sym, ap, subst, ◌∙◌, append_assoc, append-nil, Some}
+--     own_of_dvc, own_outside, own_no_way     the tool's own paths: neither in an output nor on a way
+use Rattle.std.proofs.Common.{◌≡◌, ◌⊎◌, ℕ, Bool, true, false, ◌||◌, List, [], ◌∷◌, ◌++◌, map, inl, inr, refl, sym, ap, subst, ◌∙◌, append_assoc, append-nil, Some}
 use Rattle.std.specs.Prelude.{bytes_eq, codes}
 use Rattle.std.specs.List.{AllByRecursion, list_any, flat_map}
 use Rattle.std.proofs.lemmas.Bool.{false≢true, or_parts, or_from, or_left, or_right, or_cases, and_parts, and_from, false_from_ne_true}
@@ -47,7 +47,7 @@ apart_by : (a b p : Path) → overlap a b ≡ false → under a p ≡ true → u
 apart_by a b p apart u =
     false_from_ne_true (under b p) (λ e. false≢true (sym apart ∙ under-overlap a b p u e))
 
-own_of_dvc : (p : Path) → under dvc_path p ≡ true → is_own p ≡ true
+pub own_of_dvc : (p : Path) → under dvc_path p ≡ true → is_own p ≡ true
 own_of_dvc p u = or_left (under dvc_path p) (under lock_path p) u
 
 own_of_lock : (p : Path) → under lock_path p ≡ true → is_own p ≡ true

@@ -5,18 +5,20 @@
 --     TellsMade name outs got   an output that is told missing is one of them
 --     InFolders roads m n       each moment while they are made
 --     IsReadied s m n           the folders of the stage's job stand, and it is given what stood at the start
-use Rattle.std.specs.Prelude.{◌≡◌, ℕ, Bool, true, List, [], map, Option, Some, None, if◌then◌else◌, ⊤}
+--     IsLaneFirst s m n         each moment of a run: its lane has been begun before anything of an output is touched
+use Rattle.std.specs.Prelude.{◌≡◌, ◌⊎◌, ℕ, Bool, true, List, [], map, Option, Some, None, if◌then◌else◌, ⊤}
 use Rattle.std.specs.List.{AllByRecursion, list_any}
 use Rattle.dvc_base.specs.Path.{Path, under}
 use Rattle.dvc_base.specs.declared.fault.Fault.{Fault}
 use Rattle.dvc_base.specs.declared.fault.Fault.TheVariants.{NotFolder, MissingOutput}
-use Rattle.world_api.specs.Tree.{Tree, Item}
-use Rattle.world_api.specs.Effect.{invocation_of}
-use Rattle.world_api.specs.Calls.{HasFolders}
+use Rattle.world_api.specs.Tree.{Tree, Item, item_at}
+use Rattle.world_api.specs.Effect.{invocation_of, is_in_any}
+use Rattle.world_api.specs.Calls.{IsFileAt, HasFolders}
 use Rattle.world_api.specs.History.{Moment, Keeps}
+use Rattle.world_api.specs.Layout.{lane_path}
 use Rattle.world_api.specs.Writes.{IsMade, HasRoad, IsFolderAt}
 use Rattle.repro_laws.specs.Anew.{is_file}
-use Rattle.repro_laws.specs.Stage.{out_path, job_with}
+use Rattle.repro_laws.specs.Stage.{out_path, stage_outs, job_with}
 use Rattle.repro_laws.specs.Refusals.{first_of, road_fault}
 use Rattle.repro_laws.specs.declared.stage.Out.{Out}
 use Rattle.repro_laws.specs.declared.stage.Stage.{Stage}
@@ -55,3 +57,8 @@ pub record InFolders (roads : List Path) (m n : Moment) : Type 0 where
 pub record IsReadied (s : Stage) (m n : Moment) : Type 0 where
   pub folders : HasFolders (job_with s []) n.tree
   pub given : invocation_of (job_with s []) n.tree ≡ invocation_of (job_with s []) m.tree
+
+-- the outputs are as they were, or the lane for the next lock has been begun
+abbrev pub IsLaneFirst : Stage → Moment → Moment → Type 0
+IsLaneFirst s m n =
+    ((p : Path) → is_in_any (stage_outs s) p ≡ true → item_at n.tree p ≡ item_at m.tree p) ⊎ IsFileAt n.tree (lane_path 0)

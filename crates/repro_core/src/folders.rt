@@ -4,14 +4,14 @@ ghost use Rattle.world_api.specs.Effect.{is_in_any};
 ghost use Rattle.world_api.specs.History.{HasCause, Keeps};
 ghost use Rattle.world_api.specs.Outside.{tree_of, PassesFrom};
 ghost use Rattle.world_api.specs.Writes.{IsNoFileAt};
-ghost use Rattle.world_api.specs.Layout.{dvc_path};
-ghost use Rattle.world_api.specs.Calls.{are_apart};
+ghost use Rattle.world_api.specs.Layout.{dvc_path, lane_path};
+ghost use Rattle.world_api.specs.Calls.{are_apart, IsFileAt};
 ghost use Rattle.repro_laws.specs.Stage.{out_path, IsStage};
 ghost use Rattle.repro_laws.specs.Refusals.{see_fault, way_fault};
 ghost use Rattle.repro_laws.specs.Headline.{is_ordered, IsKept};
 ghost use Rattle.repro_laws.specs.Moments.{is_own};
 ghost use Rattle.repro_core.specs.Steps.{IsClear, IsPrepared, InWork};
-ghost use Rattle.repro_core.specs.Ways.{HaveRoads, AreFolders, InFolders, IsReadied};
+ghost use Rattle.repro_core.specs.Ways.{HaveRoads, AreFolders, InFolders, IsReadied, IsLaneFirst};
 
 use crate::prepared::Prepared;
 use dvc_base::{Failed, Rel};
@@ -35,6 +35,9 @@ pub(crate) fn make_ready<F: Files>(
     requires no_file { IsTrue F.tells → IsNoFileAt (tree_of (F.history files.old)) dvc_path }
     ensures ready { IsTrue F.tells →
         OnOk result (IsReadied stage.now (F.history files.old).present (F.history files.new).present) }
+    ensures begun { IsTrue F.tells → OnOk result (IsFileAt (tree_of (F.history files.new)) (lane_path 0)) }
+    ensures lane_first { IsTrue F.tells →
+        PassesFrom (IsLaneFirst stage.now) (F.history files.old) (F.history files.new) }
     ensures moments { IsTrue F.tells → PassesFrom (InWork stage.now []) (F.history files.old) (F.history files.new) }
     ensures cause { HasCause (F.faults files.old) (F.faults files.new) result }
 {

@@ -15,6 +15,7 @@ ghost use Rattle.repro_laws.specs.Headline.{is_ordered, IsKept};
 ghost use Rattle.repro_laws.specs.Moments.{is_own};
 ghost use Rattle.repro_core.specs.Steps.{IsPrepared, InWorks, MakesOuts, RunsJob, work_kinds};
 ghost use Rattle.repro_core.specs.Telling.{TellsOwn};
+ghost use Rattle.repro_core.specs.Ways.{IsLaneFirst};
 
 use crate::folders::make_ready;
 use crate::job::{look_at_made, run_job};
@@ -45,6 +46,8 @@ pub(crate) fn run_anew<W: World>(
         refused_out stage.now.name o (value_at (tree_of (W.history world.new)) o.path)) stage.now.outs ≡ None) }
     ensures ran { IsTrue W.tells →
         RunsJob stage.now (fault_in result) (W.history world.old).present (W.history world.new).present }
+    ensures lane_first { IsTrue W.tells →
+        PassesFrom (IsLaneFirst stage.now) (W.history world.old) (W.history world.new) }
     ensures moments { IsTrue W.tells → PassesFrom (InWorks stage.now) (W.history world.old) (W.history world.new) }
     ensures told { TellsOwn stage.now (fault_in result) }
     ensures kinds { MayBe work_kinds (fault_in result) }

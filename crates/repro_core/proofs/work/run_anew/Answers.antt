@@ -6,7 +6,9 @@ use Rattle.world_api.specs.Outside.{tree_of, PassesFrom}
 use Rattle.dvc_base.specs.Answer.{fault_in}
 use Rattle.repro_laws.specs.Refusals.{way_fault}
 use Rattle.repro_core.specs.Steps.{InWorks, MakesOuts, RunsJob}
+use Rattle.repro_core.specs.Ways.{IsLaneFirst}
 use Rattle.repro_core.proofs.OutcomeLemmas.{runnable, way_due, way_none, way_tells, run_due, look_due, made_tells, ran_run, ran_look, works_same, works_on, works_run, ran_at}
+use Rattle.repro_core.proofs.LaneFirstLemmas.{first_same, first_on, first_run}
 use Rattle.repro_core.proofs.work.run_anew.Goals as goal
 
 pub returns-in_err-look_at_roads-clause-made : goal.returns-in_err-look_at_roads-clause-made
@@ -96,3 +98,22 @@ returns-clause-moments g c told =
 
 pub returns-clause-told : goal.returns-clause-told
 returns-clause-told g c = made_tells c.args.stage.now (fault_in c.look_at_made.result) c.requires.stage c.look_at_made.ensures.kinds c.look_at_made.ensures.told
+
+pub returns-in_err-look_at_roads-clause-lane_first : goal.returns-in_err-look_at_roads-clause-lane_first
+returns-in_err-look_at_roads-clause-lane_first g c told =
+    first_same c.args.stage.now (g.W.Ground.history c.args.world.now) (g.W.Ground.history c.look_at_roads.new.files) (c.look_at_roads.ensures.unchanged told)
+
+pub returns-in_default-clause-lane_first : goal.returns-in_default-clause-lane_first
+returns-in_default-clause-lane_first g c told =
+    first_on c.args.stage.now (g.W.Ground.history c.args.world.now) (g.W.Ground.history c.look_at_roads.new.files) (g.W.Ground.history c.make_ready.new.files) (c.look_at_roads.ensures.unchanged told) (c.make_ready.ensures.lane_first told)
+
+pub returns-in_err-run_job-clause-lane_first : goal.returns-in_err-run_job-clause-lane_first
+returns-in_err-run_job-clause-lane_first g c told =
+    first_run c.args.stage.now c.args.prepared.now.job (g.W.Ground.history c.args.world.now) (g.W.Ground.history c.look_at_roads.new.files) (g.W.Ground.history c.make_ready.new.files) (g.W.Ground.history c.run_job.new.world) c.requires.stage c.requires.kept c.requires.prepared.job (c.look_at_roads.ensures.unchanged told) (c.make_ready.ensures.lane_first told) (c.in-Ok.ensures.begun told) (c.run_job.ensures.moments told)
+
+pub returns-clause-lane_first : goal.returns-clause-lane_first
+returns-clause-lane_first g c told =
+    let s = c.args.stage.now in
+    let start = g.W.Ground.history c.args.world.now in
+    let first = first_run s c.args.prepared.now.job start (g.W.Ground.history c.look_at_roads.new.files) (g.W.Ground.history c.make_ready.new.files) (g.W.Ground.history c.run_job.new.world) c.requires.stage c.requires.kept c.requires.prepared.job (c.look_at_roads.ensures.unchanged told) (c.make_ready.ensures.lane_first told) (c.in-Ok.ensures.begun told) (c.run_job.ensures.moments told) in
+    subst (λ (h : History). PassesFrom (IsLaneFirst s) start h) (sym (c.look_at_made.ensures.unchanged told)) first
