@@ -7,3 +7,4 @@ pub mod PairLemmas
 pub mod AgainLemmas
 pub mod SameLemmas
 pub mod SoundLemmas
+pub mod FoundLemmas

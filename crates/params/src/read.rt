@@ -1,5 +1,5 @@
 // A file of parameters: no text past the limit is read, and no value that `dvc.lock` has no room for.
-ghost use Rattle.std.specs.Prelude.{◌≡◌, ◌⊎◌, ◌≤◌, length, IsTrue, IfOk, IfErr, IsErrOf, Some, vec_len};
+ghost use Rattle.std.specs.Prelude.{◌≡◌, ◌⊎◌, ◌≤◌, length, IsTrue, IfOk, IfErr, IsErrOf, Some, None, vec_len};
 ghost use Rattle.dvc_base.specs.Limits.{limit_of};
 ghost use Rattle.dvc_base.specs.declared.limits.What.TheVariants.{YamlText};
 ghost use Rattle.dvc_base.specs.declared.node.Node.{out-Node};
@@ -32,6 +32,8 @@ pub fn read_params<F: ReadFiles>(
     ensures read { IsTrue F.tells →
         IsRead result (spec.params_at (item_at (tree_of (F.history files.old)) at.now)) }
     ensures printable { IfOk result IsPrintable }
+    // No top-level value has more collections in one another than `dvc.lock` has room for.
+    ensures shallow { IfOk result (λ root. spec.refused_key (out-Node root) ≡ None) }
     ensures unchanged { IsUntouched F.tells (F.history files.old) (F.history files.new) }
     // A change is told with two sizes, and never where the world tells its tree.
     ensures changed { IfErr result (IsChangeFrom F.tells) }
@@ -55,6 +57,7 @@ fn read_short<F: ReadFiles>(
     ensures read { IsTrue F.tells →
         IsRead result (spec.params_at (item_at (tree_of (F.history files.old)) at.now)) }
     ensures printable { IfOk result IsPrintable }
+    ensures shallow { IfOk result (λ root. spec.refused_key (out-Node root) ≡ None) }
     ensures unchanged { IsUntouched F.tells (F.history files.old) (F.history files.new) }
     ensures changed { IfErr result (IsChangeFrom F.tells) }
     ensures cause { IsCaused (F.faults files.old) (F.faults files.new) (IsErrOf result Blamed) }
@@ -95,6 +98,7 @@ fn params_in(alloc: Global, text: &[u8]) -> Result<Node, ParamsFault>
     requires short { length text.now ≤ limit_of YamlText }
     ensures read { IsRead result (spec.params_in text.now) }
     ensures printable { IfOk result IsPrintable }
+    ensures shallow { IfOk result (λ root. spec.refused_key (out-Node root) ≡ None) }
     ensures steady { IfErr result spec.IsSteady }
 {
     match parse(alloc, text) {
@@ -108,6 +112,7 @@ fn params_of(alloc: Global, root: Node) -> Result<Node, ParamsFault>
     requires { IsPrintable root }
     ensures read { IsRead result (spec.params_of root) }
     ensures printable { IfOk result IsPrintable }
+    ensures shallow { IfOk result (λ root. spec.refused_key (out-Node root) ≡ None) }
     ensures steady { IfErr result spec.IsSteady }
 {
     check(alloc, &root)?;
