@@ -1,7 +1,8 @@
 -- Nodes that are the same as they stand.
---     list_same, list_itself      lists, where a test of items tells whether they are equal
---     layer_same, layer_itself    layers, where a test of what stands inside does
---     node_decides                nodes of as many collections in one another as are looked into
+--     list_same, list_itself      lists, by a test of items
+--     layer_same, layer_itself    layers, by a test of what stands inside
+--     node_same                   what passes the test is the same
+--     node_decides                and so the test tells, where no more collections stand in one another than are looked into
 use Rattle.std.proofs.Common.{◌≡◌, ℕ, zero, suc, Bool, true, false, ◌&&◌, List, [], ◌∷◌, refl, sym, ap, subst, ◌∙◌}
 use Rattle.std.specs.Prelude.{ℤ, bytes_eq}
 use Rattle.std.specs.Bool.{Decides}
@@ -40,66 +41,66 @@ truth_itself false = refl
 
 -- ---- lists
 
-list_same : {A : Type 0} (E : A → A → Bool) (P : A → Type 0) → ((x y : A) → P x → Decides (E x y) (x ≡ y)) → (xs ys : List A) → Each P xs → pointwise E xs ys ≡ true → xs ≡ ys
-list_same E P tells [] [] all h = refl
-list_same E P tells [] (y ∷ ys) all h = absurd (false≢true h)
-list_same E P tells (x ∷ xs) [] all h = absurd (false≢true h)
-list_same E P tells (x ∷ xs) (y ∷ ys) all h =
+pub list_same : {A : Type 0} (E : A → A → Bool) → ((x y : A) → E x y ≡ true → x ≡ y) → (xs ys : List A) → pointwise E xs ys ≡ true → xs ≡ ys
+list_same E same [] [] h = refl
+list_same E same [] (y ∷ ys) h = absurd (false≢true h)
+list_same E same (x ∷ xs) [] h = absurd (false≢true h)
+list_same E same (x ∷ xs) (y ∷ ys) h =
     let parts = and_parts (E x y) (pointwise E xs ys) h in
-    ap (λ z. z ∷ xs) ((tells x y all.0).0 parts.0) ∙ ap (λ zs. y ∷ zs) (list_same E P tells xs ys all.1 parts.1)
+    ap (λ z. z ∷ xs) (same x y parts.0) ∙ ap (λ zs. y ∷ zs) (list_same E same xs ys parts.1)
 
-list_itself : {A : Type 0} (E : A → A → Bool) (P : A → Type 0) → ((x y : A) → P x → Decides (E x y) (x ≡ y)) → (xs : List A) → Each P xs → pointwise E xs xs ≡ true
-list_itself E P tells [] all = refl
-list_itself E P tells (x ∷ xs) all =
-    and_from (E x x) (pointwise E xs xs) ((tells x x all.0).1 refl) (list_itself E P tells xs all.1)
+pub list_itself : {A : Type 0} (E : A → A → Bool) (P : A → Type 0) → ((x : A) → P x → E x x ≡ true) → (xs : List A) → Each P xs → pointwise E xs xs ≡ true
+list_itself E P itself [] all = refl
+list_itself E P itself (x ∷ xs) all =
+    and_from (E x x) (pointwise E xs xs) (itself x all.0) (list_itself E P itself xs all.1)
 
 -- ---- layers
 
-module _ (inner : Node → Node → Bool) (P : Node → Type 0) (tells : (x y : Node) → P x → Decides (inner x y) (x ≡ y)) where
+module _ (inner : Node → Node → Bool) where
   abbrev at_pairs : Pair → Pair → Bool
   at_pairs p q = bytes_eq (key_of p) (key_of q) && inner (value_of p) (value_of q)
 
-  pair_same : (p q : Pair) → P (value_of p) → at_pairs p q ≡ true → p ≡ q
-  pair_same p q h e =
-      let parts = and_parts (bytes_eq (key_of p) (key_of q)) (inner (value_of p) (value_of q)) e in
-      same_pair p q (bytes_same (key_of p) (key_of q) parts.0) ((tells (value_of p) (value_of q) h).0 parts.1)
+  module _ (same : (x y : Node) → inner x y ≡ true → x ≡ y) where
+    pair_same : (p q : Pair) → at_pairs p q ≡ true → p ≡ q
+    pair_same p q e =
+        let parts = and_parts (bytes_eq (key_of p) (key_of q)) (inner (value_of p) (value_of q)) e in
+        same_pair p q (bytes_same (key_of p) (key_of q) parts.0) (same (value_of p) (value_of q) parts.1)
 
-  pair_itself : (p : Pair) → P (value_of p) → at_pairs p p ≡ true
-  pair_itself p h =
-      and_from (bytes_eq (key_of p) (key_of p)) (inner (value_of p) (value_of p)) (bytes_itself (key_of p)) ((tells (value_of p) (value_of p) h).1 refl)
+    layer_same : (k l : Layer) → same_layer inner k l ≡ true → k ≡ l
+    layer_same Node-F.Null Node-F.Null e = refl
+    layer_same (Node-F.Bool a) (Node-F.Bool b) e = ap (λ (x : Bool). Node-F.Bool x) (truth_same a b e)
+    layer_same (Node-F.Whole m t) (Node-F.Whole n u) e =
+        let parts = and_parts (int_eq m n) (bytes_eq t u) e in
+        ap (λ (x : ℤ). Node-F.Whole x t) ((Decides-int_eq m n).0 parts.0) ∙ ap (λ (x : List ℕ). Node-F.Whole n x) (bytes_same t u parts.1)
+    layer_same (Node-F.Decimal t) (Node-F.Decimal u) e = ap (λ (x : List ℕ). Node-F.Decimal x) (bytes_same t u e)
+    layer_same (Node-F.Text t) (Node-F.Text u) e = ap (λ (x : List ℕ). Node-F.Text x) (bytes_same t u e)
+    layer_same (Node-F.Items xs) (Node-F.Items ys) e = ap (λ (x : List Node). Node-F.Items x) (list_same inner same xs ys e)
+    layer_same (Node-F.Pairs ps) (Node-F.Pairs qs) e = ap (λ (x : List Pair). Node-F.Pairs x) (list_same at_pairs pair_same ps qs e)
+    layer_same _ _ e = absurd (false≢true e)
 
-  pair_decides : (p q : Pair) → P (value_of p) → Decides (at_pairs p q) (p ≡ q)
-  pair_decides p q h = (pair_same p q h, λ e. subst (λ (x : Pair). at_pairs p x ≡ true) e (pair_itself p h))
+    opened_same : (a b : Node) → same_layer inner (out-Node a) (out-Node b) ≡ true → a ≡ b
+    opened_same a b e = sym (back a) ∙ ap roll-Node (layer_same (out-Node a) (out-Node b) e) ∙ back b
 
-  layer_same : (k l : Layer) → Inside P k → same_layer inner k l ≡ true → k ≡ l
-  layer_same Node-F.Null Node-F.Null h e = refl
-  layer_same (Node-F.Bool a) (Node-F.Bool b) h e = ap (λ (x : Bool). Node-F.Bool x) (truth_same a b e)
-  layer_same (Node-F.Whole m t) (Node-F.Whole n u) h e =
-      let parts = and_parts (int_eq m n) (bytes_eq t u) e in
-      ap (λ (x : ℤ). Node-F.Whole x t) ((Decides-int_eq m n).0 parts.0) ∙ ap (λ (x : List ℕ). Node-F.Whole n x) (bytes_same t u parts.1)
-  layer_same (Node-F.Decimal t) (Node-F.Decimal u) h e = ap (λ (x : List ℕ). Node-F.Decimal x) (bytes_same t u e)
-  layer_same (Node-F.Text t) (Node-F.Text u) h e = ap (λ (x : List ℕ). Node-F.Text x) (bytes_same t u e)
-  layer_same (Node-F.Items xs) (Node-F.Items ys) h e = ap (λ (x : List Node). Node-F.Items x) (list_same inner P tells xs ys h e)
-  layer_same (Node-F.Pairs ps) (Node-F.Pairs qs) h e =
-      ap (λ (x : List Pair). Node-F.Pairs x) (list_same at_pairs (λ p. P (value_of p)) pair_decides ps qs h e)
-  layer_same _ _ h e = absurd (false≢true e)
+  module _ (P : Node → Type 0) (itself : (x : Node) → P x → inner x x ≡ true) where
+    pair_itself : (p : Pair) → P (value_of p) → at_pairs p p ≡ true
+    pair_itself p h =
+        and_from (bytes_eq (key_of p) (key_of p)) (inner (value_of p) (value_of p)) (bytes_itself (key_of p)) (itself (value_of p) h)
 
-  layer_itself : (k : Layer) → Inside P k → same_layer inner k k ≡ true
-  layer_itself Node-F.Null h = refl
-  layer_itself (Node-F.Bool b) h = truth_itself b
-  layer_itself (Node-F.Whole n t) h = and_from (int_eq n n) (bytes_eq t t) ((Decides-int_eq n n).1 refl) (bytes_itself t)
-  layer_itself (Node-F.Decimal t) h = bytes_itself t
-  layer_itself (Node-F.Text t) h = bytes_itself t
-  layer_itself (Node-F.Items xs) h = list_itself inner P tells xs h
-  layer_itself (Node-F.Pairs ps) h = list_itself at_pairs (λ p. P (value_of p)) pair_decides ps h
-
-  layer_decides : (a b : Node) → Inside P (out-Node a) → Decides (same_layer inner (out-Node a) (out-Node b)) (a ≡ b)
-  layer_decides a b h = (
-    λ e. sym (back a) ∙ ap roll-Node (layer_same (out-Node a) (out-Node b) h e) ∙ back b,
-    λ e. subst (λ (x : Node). same_layer inner (out-Node a) (out-Node x) ≡ true) e (layer_itself (out-Node a) h),
-  )
+    layer_itself : (k : Layer) → Inside P k → same_layer inner k k ≡ true
+    layer_itself Node-F.Null h = refl
+    layer_itself (Node-F.Bool b) h = truth_itself b
+    layer_itself (Node-F.Whole n t) h = and_from (int_eq n n) (bytes_eq t t) ((Decides-int_eq n n).1 refl) (bytes_itself t)
+    layer_itself (Node-F.Decimal t) h = bytes_itself t
+    layer_itself (Node-F.Text t) h = bytes_itself t
+    layer_itself (Node-F.Items xs) h = list_itself inner P itself xs h
+    layer_itself (Node-F.Pairs ps) h = list_itself at_pairs (λ p. P (value_of p)) pair_itself ps h
 
 -- ---- nodes
+
+pub node_same : (d : ℕ) (a b : Node) → same_node d a b ≡ true → a ≡ b
+unfolding same_node
+node_same zero a b e = opened_same (λ x y. false) (λ x y h. absurd (false≢true h)) a b e
+node_same (suc d) a b e = opened_same (same_node d) (node_same d) a b e
 
 nothing_inside : (l : Layer) → IsScalar l → Inside (λ v. ⊥) l
 nothing_inside (Node-F.Items xs) h = absurd h
@@ -110,7 +111,10 @@ nothing_inside (Node-F.Whole n t) h = tt
 nothing_inside (Node-F.Decimal t) h = tt
 nothing_inside (Node-F.Text t) h = tt
 
-pub node_decides : (d : ℕ) (a b : Node) → IsSound d a → Decides (same_node d a b) (a ≡ b)
+node_itself : (d : ℕ) (a : Node) → IsSound d a → same_node d a a ≡ true
 unfolding same_node
-node_decides zero a b h = layer_decides (λ x y. false) (λ v. ⊥) (λ x y k. absurd k) a b (nothing_inside (out-Node a) (flat a h))
-node_decides (suc d) a b h = layer_decides (same_node d) (IsSound d) (node_decides d) a b (inside d a h)
+node_itself zero a h = layer_itself (λ x y. false) (λ v. ⊥) (λ x k. absurd k) (out-Node a) (nothing_inside (out-Node a) (flat a h))
+node_itself (suc d) a h = layer_itself (same_node d) (IsSound d) (node_itself d) (out-Node a) (inside d a h)
+
+pub node_decides : (d : ℕ) (a b : Node) → IsSound d a → Decides (same_node d a b) (a ≡ b)
+node_decides d a b h = (node_same d a b, λ e. subst (λ (x : Node). same_node d a x ≡ true) e (node_itself d a h))

@@ -2,7 +2,8 @@
 --     value_exact        a test of whether two values are the same tells whether their canonical nodes are the same nodes
 --     files_exact        files of parameters, compared as their canonical ones
 --     are_canonical      canonical parameters can be compared
---     entry_sound        so can those of an entry in form
+--     keyed_sound        so can those in form
+--     entry_sound        as those of an entry are
 use Rattle.std.proofs.Common.{◌≡◌, Bool, ◌&&◌, List, [], ◌∷◌, map, refl, sym, ap, ◌∙◌, lit<}
 use Rattle.std.specs.Bool.{Decides}
 use Rattle.std.specs.Cmp.Lexicographic.{pointwise}
@@ -57,9 +58,12 @@ are_canonical ps h =
     each_made (λ f. Each IsSoundPair f.keys) (λ f. Each IsCanonicalPair f.keys) canonical_file
     (λ f k. each_made IsSoundPair IsCanonicalPair canonical_pair pair_canonical f.keys k) ps h
 
-keyed_sound : (f : ParamFile) → IsKeyed f.keys → Each IsSoundPair f.keys
-keyed_sound f k =
+keys_sound : (f : ParamFile) → IsKeyed f.keys → Each IsSoundPair f.keys
+keys_sound f k =
     each_by (λ p. IsSound 59 (value_of p)) IsSoundPair (λ p s. sound_within 59 64 (value_of p) (lit< tt) s) f.keys k.sound
 
+pub keyed_sound : (ps : List ParamFile) → Each (λ f. IsKeyed f.keys) ps → AreSound ps
+keyed_sound ps h = each_by (λ f. IsKeyed f.keys) (λ f. Each IsSoundPair f.keys) keys_sound ps h
+
 pub entry_sound : (e : Entry) → IsEntry e → AreSound e.params
-entry_sound e h = each_by (λ f. IsKeyed f.keys) (λ f. Each IsSoundPair f.keys) keyed_sound e.params h.keys
+entry_sound e h = keyed_sound e.params h.keys
