@@ -17,7 +17,8 @@ use Rattle.repro_laws.specs.Headline.{IsApart, IsKept, is_ordered, Covers}
 use Rattle.repro_laws.specs.declared.stage.Stage.{Stage}
 use Rattle.repro_laws.proofs.ListLemmas.{each_from, each_false}
 use Rattle.repro_laws.proofs.FileLemmas.{file_at, some_value}
-use Rattle.repro_laws.proofs.ReadLemmas.{outside_outs, Stay, stay_value, left_files, same_params}
+use Rattle.repro_laws.proofs.ParamLemmas.{params_by_files}
+use Rattle.repro_laws.proofs.ReadLemmas.{outside_outs, Stay, stay_value, left_files}
 use Rattle.repro_laws.proofs.StepLaw.{reads_params}
 use Rattle.repro_laws.proofs.StayLaw.{IsApartLater}
 
@@ -47,7 +48,7 @@ apart_own s order =
 
 pub read_stays : (own way : Path → Bool) (outs : List Path) (s : Stage) (t u : Tree) → IsKept own s → AreClear outs s → IsTree t → IsTree u → Stay own way outs t u → params_at s u ≡ params_at s t
 read_stays own way outs s t u kept clear a b stay =
-    same_params t u s.params (each_from (λ w. (list_any (overlap w.path) outs ≡ false) × IsApart own w.path) (λ w. file_at u w.path ≡ file_at t w.path) s.params (λ w x. left_files way t u w.path a b (stay w.path (outside_outs w.path w.path outs x.0 (under-refl w.path)) (x.1 w.path (under-refl w.path)))) (reads_params own outs s kept clear))
+    params_by_files s t u (each_from (λ w. (list_any (overlap w.path) outs ≡ false) × IsApart own w.path) (λ w. file_at u w.path ≡ file_at t w.path) s.params (λ w x. left_files way t u w.path a b (stay w.path (outside_outs w.path w.path outs x.0 (under-refl w.path)) (x.1 w.path (under-refl w.path)))) (reads_params own outs s kept clear))
 
 -- ---- the book
 

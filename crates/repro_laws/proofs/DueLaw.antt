@@ -2,7 +2,7 @@
 --     IsWaiting own done ss     what is asked of stages that have their turns, one after another
 --     due_law                   the choices met are a front of those that are due, and no refusal was due so far
 --     front_due                 the same of a plan of stages of which some have had their turns
-use Rattle.std.proofs.Common.{◌≡◌, ◌≢◌, Bool, true, false, cond, ◌||◌, List, [], ◌∷◌, ◌++◌, refl, sym, ap, subst, ◌∙◌, Option, Some, None, is_some, Result, Ok}
+use Rattle.std.proofs.Common.{◌≡◌, ◌≢◌, Bool, true, false, cond, ◌||◌, List, [], ◌∷◌, ◌++◌, refl, sym, ap, subst, ◌∙◌, Option, Some, None, is_some, Ok}
 use Rattle.std.specs.List.{AllByRecursion}
 use Rattle.dvc_base.specs.Path.{Path}
 use Rattle.dvc_base.specs.declared.data.ParamFile.{ParamFile}
@@ -12,11 +12,11 @@ use Rattle.world_api.specs.Effect.{Effect}
 use Rattle.world_api.specs.declared.job.Job.{Job}
 use Rattle.lock_files.specs.declared.entry.Entry.{Entry}
 use Rattle.lock_files.specs.Book.{entry_of}
-use Rattle.repro_laws.specs.Stage.{stage_outs, params_at, job_with, IsStage}
+use Rattle.repro_laws.specs.Stage.{stage_outs, params_at, job_with}
 use Rattle.repro_laws.specs.Entries.{seen_at}
 use Rattle.repro_laws.specs.Choices.{is_same_as}
 use Rattle.repro_laws.specs.Refusals.{first_fault, see_fault}
-use Rattle.repro_laws.specs.Due.{Standing, standing_of, Due, choice_at, params_in, chosen_in, next_in, following, due_in, due, choice_fault, turn_fault, fault_of}
+use Rattle.repro_laws.specs.Due.{Standing, standing_of, Due, choice_at, params_or_none, params_in, chosen_in, next_in, following, due_in, due, choice_fault, turn_fault, fault_of}
 use Rattle.repro_laws.specs.Turns.{State, Leaves, Turn, Turns, stages_of}
 use Rattle.repro_laws.specs.Headline.{IsOwn}
 use Rattle.repro_laws.specs.declared.stage.Stage.{Stage}
@@ -25,17 +25,11 @@ use Rattle.repro_laws.specs.declared.stage.Choice.{Choice}
 use Rattle.repro_laws.specs.declared.stage.Choice.TheVariants.{Skip, Restore, Run}
 use Rattle.repro_laws.proofs.FileLemmas.{Roads, roads_tree}
 use Rattle.repro_laws.proofs.AlikeLemmas.{Alike}
-use Rattle.repro_laws.proofs.SeenLemmas.{none_read, params_none, see_alike, plain_choice, chosen_plain}
+use Rattle.repro_laws.proofs.SeenLemmas.{params_alike, see_alike, plain_choice, chosen_plain}
 use Rattle.repro_laws.proofs.DueLemmas.{IsLater, Related, chosen_alike, due_same, fault_same}
 use Rattle.repro_laws.proofs.TurnDue.{PutLaw, IsTurning, IsNext, run_due, skip_due, roads_of}
 
 -- ---- one turn
-
-ok_same : (ps qs : List ParamFile) → ◌≡◌ {A = Result (List ParamFile) Fault} (Ok ps) (Ok qs) → ps ≡ qs
-ok_same ps qs e = cc
-
-pub no_params : (s : Stage) (t : Tree) (ps : List ParamFile) → IsStage s → params_at s t ≡ Ok ps → ps ≡ []
-no_params s t ps is read = ok_same ps [] (sym read ∙ none_read s t is)
 
 -- where nothing is restored, a choice is a skip or a run
 pub none_restored : (forced same : Bool) (from : Option Entry) → ◌≡◌ {A = Choice × Option Entry} (cond forced (Run, None) (cond same (Skip, None) (Run, None))) (Restore, from) → ⊥
@@ -81,43 +75,37 @@ module _ (own : Path → Bool) (area : IsOwn own) (law : PutLaw) (flags : Flags)
   chosen_taken done d m n st later related turn =
       let s = d.stage in
       let here = standing_of m.tree m.lock in
-      let is = later.seen.stage in
-      let ps = no_params s m.tree turn.params is turn.read in
-      let taken : choice_at flags s [] here ≡ (d.choice, turn.from) =
-      ap (λ x. choice_at flags s x here) (sym ps) ∙ turn.chosen in
       let same : chosen_in flags s here ≡ (d.choice, turn.from) =
-      ap (λ x. choice_at flags s x here) (params_none s here is) ∙ taken in
+      ap (λ x. choice_at flags s x here) (ap params_or_none turn.read) ∙ turn.chosen in
       let forced = flags.force || s.always in
-      let told = is_same_as (entry_of m.lock s.name) (seen_at s [] m.tree) in
-      let by : plain_choice flags s (seen_at s [] m.tree) m.lock ≡ (d.choice, turn.from) = sym (chosen_plain flags s here none is) ∙ same in
+      let seen = seen_at s (params_in s here) m.tree in
+      let told = is_same_as (entry_of m.lock s.name) seen in
+      let by : plain_choice flags s seen m.lock ≡ (d.choice, turn.from) = sym (chosen_plain flags s here none) ∙ same in
       record {
         empty = no_entry forced told d.choice turn.from by;
         chosen = chosen_alike own done area flags s here st none later related ∙ same;
         plain = λ e. none_restored forced told turn.from (by ∙ ap (λ (c : Choice). (c, turn.from)) e);
       }
 
-  next_by : (done : List Path) (s : Stage) (turning : IsTurning own done s) (c : Choice) (from : Option Entry) (m n : State) (st : Standing) → IsTree m.tree → IsTree n.tree → see_fault s m.tree ≡ None → Related own done (standing_of m.tree m.lock) st → Roads st.tree → c ≢ Restore → from ≡ None → chosen_in flags s st ≡ (c, from) → Leaves own effect s [] c from m n → IsNext own area done s turning flags effect n st
-  next_by done s turning Skip from m n st tm tn see related kept plain none chosen left =
+  next_by : (done : List Path) (s : Stage) (turning : IsTurning own done s) (ps : List ParamFile) (c : Choice) (from : Option Entry) (m n : State) (st : Standing) → IsTree m.tree → IsTree n.tree → params_at s m.tree ≡ Ok ps → see_fault s m.tree ≡ None → Related own done (standing_of m.tree m.lock) st → Roads st.tree → c ≢ Restore → from ≡ None → chosen_in flags s st ≡ (c, from) → Leaves own effect s ps c from m n → IsNext own area done s turning flags effect n st
+  next_by done s turning ps Skip from m n st tm tn read see related kept plain none chosen left =
       skip_due own area done s turning flags effect m n st tm tn related kept (chosen ∙ ap (λ (o : Option Entry). (Skip, o)) none) left
-  next_by done s turning Restore from m n st tm tn see related kept plain none chosen left = absurd (plain refl)
-  next_by done s turning Run from m n st tm tn see related kept plain none chosen left =
-      run_due own area done s turning law flags effect m n st tm tn see related kept (chosen ∙ ap (λ (o : Option Entry). (Run, o)) none) left
+  next_by done s turning ps Restore from m n st tm tn read see related kept plain none chosen left = absurd (plain refl)
+  next_by done s turning ps Run from m n st tm tn read see related kept plain none chosen left =
+      run_due own area done s turning law flags effect ps m n st tm tn read see related kept (chosen ∙ ap (λ (o : Option Entry). (Run, o)) none) left
 
   next_taken : (done : List Path) (d : Due) (turning : IsTurning own done d.stage) (m n : State) (st : Standing) → IsTree m.tree → Related own done (standing_of m.tree m.lock) st → Roads st.tree → Turn own flags effect d m n → IsNext own area done d.stage turning flags effect n st
   next_taken done d turning m n st tm related kept turn =
       let s = d.stage in
       let c = chosen_taken done d m n st turning.later related turn in
-      let ps = no_params s m.tree turn.params turning.later.seen.stage turn.read in
-      let left : Leaves own effect s [] d.choice turn.from m n = subst (λ x. Leaves own effect s x d.choice turn.from m n) ps turn.left in
-      next_by done s turning d.choice turn.from m n st tm turn.stands turn.seen related kept c.plain c.empty c.chosen left
+      next_by done s turning turn.params d.choice turn.from m n st tm turn.stands turn.read turn.seen related kept c.plain c.empty c.chosen turn.left
 
   due_taken : (done : List Path) (d : Due) (turning : IsTurning own done d.stage) (m n : State) (st : Standing) → Related own done (standing_of m.tree m.lock) st → Turn own flags effect d m n → due_in flags d.stage st ≡ d
   unfolding due_of
   due_taken done d turning m n st related turn =
       let s = d.stage in
-      let is = turning.later.seen.stage in
       let c = chosen_taken done d m n st turning.later related turn in
-      let ps : params_in s st ≡ turn.params = params_none s st is ∙ sym (no_params s m.tree turn.params is turn.read) in
+      let ps : params_in s st ≡ turn.params = ap params_or_none (params_alike own done s m.tree st.tree turning.later.seen related.trees ∙ turn.read) in
       ap (λ (x : Choice × Option Entry). due_of s x.0 (job_with s (params_in s st))) c.chosen ∙ ap (λ x. due_of s d.choice (job_with s x)) ps ∙ ap (due_of s d.choice) (sym turn.job)
 
   seen_taken : (done : List Path) (d : Due) (turning : IsTurning own done d.stage) (m n : State) (st : Standing) → Related own done (standing_of m.tree m.lock) st → Turn own flags effect d m n → see_fault d.stage st.tree ≡ None

@@ -2,7 +2,7 @@
 --     Related own done a b     the trees show the same, and the locks are equal
 --     IsLater own done s       what that asks of a stage whose turn may come
 --     due_same, fault_same     what is due of the stages to come
-use Rattle.std.proofs.Common.{◌≡◌, ◌≢◌, Bool, true, false, cond, ◌||◌, List, [], ◌∷◌, refl, sym, ap, subst, ◌∙◌, Option, Some, None, is_some, option_map, Ok}
+use Rattle.std.proofs.Common.{◌≡◌, ◌≢◌, Bool, true, false, cond, ◌||◌, List, [], ◌∷◌, refl, sym, ap, subst, ◌∙◌, Option, Some, None, is_some, option_map, Result, Ok, Err}
 use Rattle.std.specs.List.{AllByRecursion, list_any}
 use Rattle.std.proofs.lemmas.Bool.{false≢true}
 use Rattle.dvc_base.specs.Path.{Path}
@@ -18,7 +18,7 @@ use Rattle.repro_laws.specs.Anew.{without, with_folders, is_blocked, put_values,
 use Rattle.repro_laws.specs.Entries.{seen_at, entry_at}
 use Rattle.repro_laws.specs.Choices.{is_same_as}
 use Rattle.repro_laws.specs.Refusals.{first_fault, see_fault, run_fault}
-use Rattle.repro_laws.specs.Due.{Standing, Due, with_entry, after_skip, after_run, run_next, standing_next, params_in, chosen_in, next_in, following, due_in, due, choice_fault, turn_fault, fault_of}
+use Rattle.repro_laws.specs.Due.{Standing, Due, with_entry, after_skip, after_run, run_next, standing_next, params_or_none, params_in, chosen_in, next_in, following, due_in, due, choice_fault, turn_fault, fault_of}
 use Rattle.repro_laws.specs.Headline.{IsOwn}
 use Rattle.repro_laws.specs.declared.stage.Stage.{Stage}
 use Rattle.repro_laws.specs.declared.stage.Flags.{Flags}
@@ -26,7 +26,7 @@ use Rattle.repro_laws.specs.declared.stage.Choice.{Choice}
 use Rattle.repro_laws.specs.declared.stage.Choice.TheVariants.{Skip, Restore, Run}
 use Rattle.repro_laws.proofs.AlikeLemmas.{Alike, each_on}
 use Rattle.repro_laws.proofs.GrowLemmas.{IsFree, own_free, blocked_alike, alike_folders, alike_values, alike_without}
-use Rattle.repro_laws.proofs.SeenLemmas.{IsSeenIn, none_read, params_none, AreThere, deps_there, any_same, any_false, see_alike, seen_alike, entry_alike, invocation_alike, run_fault_alike, missing_alike, plain_choice, chosen_plain}
+use Rattle.repro_laws.proofs.SeenLemmas.{IsSeenIn, AreThere, deps_there, any_same, any_false, params_alike, see_alike, seen_alike, entry_alike, invocation_alike, run_fault_alike, missing_alike, plain_choice, chosen_plain}
 
 -- a stage whose turn may come
 pub record IsLater (own : Path → Bool) (done : List Path) (s : Stage) : Type 0 where
@@ -74,19 +74,19 @@ module _ (own : Path → Bool) (done : List Path) (area : IsOwn own) where
       trees_unless (list_any is_nothing values) (list_any is_nothing values) (cond (list_any (is_blocked left []) outs) None (Some left)) (cond (list_any (is_blocked right []) outs) None (Some right)) refl
       (λ h. trees_unless (list_any (is_blocked left []) outs) (list_any (is_blocked right []) outs) (Some left) (Some right) (any_same (is_blocked left []) (is_blocked right []) outs (each_on (IsFree own done) (λ p. is_blocked right [] p ≡ is_blocked left [] p) outs (λ p f. blocked_alike own done area left right [] p both (own_free own done p f)) free)) (λ g. both))
 
-  run_alike : (effect : Effect) (s : Stage) (t u : Tree) → IsLater own done s → Alike own done t u → AreThere t s → AreTrees (run_with effect s t (Ok [])) (run_with effect s u (Ok []))
-  run_alike effect s t u later a there =
+  run_alike : (effect : Effect) (s : Stage) (t u : Tree) (read : Result (List ParamFile) Fault) → IsLater own done s → Alike own done t u → AreThere t s → AreTrees (run_with effect s t read) (run_with effect s u read)
+  run_alike effect s t u (Err why) later a there = tt
+  run_alike effect s t u (Ok ps) later a there =
       let from = with_folders t [] s.dir in
       let to = with_folders u [] s.dir in
-      subst (λ i. AreTrees (run_with effect s t (Ok [])) (after_outcome to (stage_outs s) (effect i))) (sym (invocation_alike own done s t u later.seen a [] there))
-      (outcome_alike from to (stage_outs s) (effect (invocation_of (job_with s []) t)) later.free (alike_folders own done area t u [] s.dir a later.seen.kept.dir))
+      subst (λ i. AreTrees (run_with effect s t (Ok ps)) (after_outcome to (stage_outs s) (effect i))) (sym (invocation_alike own done s t u later.seen a ps there))
+      (outcome_alike from to (stage_outs s) (effect (invocation_of (job_with s ps) t)) later.free (alike_folders own done area t u [] s.dir a later.seen.kept.dir))
 
   step_alike : (effect : Effect) (s : Stage) (t u : Tree) → IsLater own done s → Alike own done t u → AreTrees (anew_step effect s t) (anew_step effect s u)
   step_alike effect s t u later a =
       trees_unless (list_any (λ d. is_nothing (dep_value t d)) s.deps) (list_any (λ d. is_nothing (dep_value u d)) s.deps) (run_with effect s t (params_at s t)) (run_with effect s u (params_at s u)) (missing_alike own done s t u later.seen a)
-      (λ h. subst (λ x. AreTrees (run_with effect s t x) (run_with effect s u (params_at s u))) (sym (none_read s t later.seen.stage))
-      (subst (λ x. AreTrees (run_with effect s t (Ok [])) (run_with effect s u x)) (sym (none_read s u later.seen.stage))
-      (run_alike effect s t u later a (any_false (λ d. is_nothing (dep_value t d)) s.deps h))))
+      (λ h. subst (λ x. AreTrees (run_with effect s t (params_at s t)) (run_with effect s u x)) (sym (params_alike own done s t u later.seen a))
+      (run_alike effect s t u (params_at s t) later a (any_false (λ d. is_nothing (dep_value t d)) s.deps h)))
 
   after_alike : (s : Stage) (ps : List ParamFile) (a b : Standing) (x y : Option Tree) → IsLater own done s → b.lock ≡ a.lock → AreTrees x y → AreStandings (option_map (after_run s ps a) x) (option_map (after_run s ps b) y)
   after_alike s ps a b None None later locks h = tt
@@ -118,25 +118,30 @@ module _ (own : Path → Bool) (done : List Path) (area : IsOwn own) where
   next_by effect s ps false true a b later related there = skip_alike s a b related
   next_by effect s ps false false a b later related there = run_next_alike effect s ps a b later related there
 
+  params_in_alike : (s : Stage) (a b : Standing) → IsLater own done s → Related own done a b → params_in s b ≡ params_in s a
+  params_in_alike s a b later related = ap params_or_none (params_alike own done s a.tree b.tree later.seen related.trees)
+
   pub chosen_alike : (flags : Flags) (s : Stage) (a b : Standing) → flags.run_cache ≡ false → IsLater own done s → Related own done a b → chosen_in flags s b ≡ chosen_in flags s a
   chosen_alike flags s a b none later related =
-      chosen_plain flags s b none later.seen.stage ∙ ap (plain_choice flags s (seen_at s [] b.tree)) related.locks ∙ ap (λ x. plain_choice flags s x a.lock) (seen_alike own done s a.tree b.tree later.seen related.trees []) ∙ sym (chosen_plain flags s a none later.seen.stage)
-
-  params_same : (s : Stage) (a b : Standing) → IsLater own done s → params_in s b ≡ params_in s a
-  params_same s a b later = params_none s b later.seen.stage ∙ sym (params_none s a later.seen.stage)
+      let ps = params_in s a in
+      chosen_plain flags s b none
+      ∙ ap (λ x. plain_choice flags s (seen_at s x b.tree) b.lock) (params_in_alike s a b later related)
+      ∙ ap (plain_choice flags s (seen_at s ps b.tree)) related.locks
+      ∙ ap (λ x. plain_choice flags s x a.lock) (seen_alike own done s a.tree b.tree later.seen related.trees ps)
+      ∙ sym (chosen_plain flags s a none)
 
   next_alike : (flags : Flags) (effect : Effect) (s : Stage) (a b : Standing) → flags.run_cache ≡ false → IsLater own done s → Related own done a b → AreThere a.tree s → AreStandings (next_in flags effect s a) (next_in flags effect s b)
   unfolding plain_choice
   next_alike flags effect s a b none later related there =
       let ps = params_in s a in
       let forced = flags.force || s.always in
-      let same = is_same_as (entry_of a.lock s.name) (seen_at s [] a.tree) in
-      let plain = plain_choice flags s (seen_at s [] a.tree) a.lock in
-      let chosen : chosen_in flags s a ≡ plain = chosen_plain flags s a none later.seen.stage in
+      let same = is_same_as (entry_of a.lock s.name) (seen_at s ps a.tree) in
+      let plain = plain_choice flags s (seen_at s ps a.tree) a.lock in
+      let chosen : chosen_in flags s a ≡ plain = chosen_plain flags s a none in
       let other : chosen_in flags s b ≡ plain = chosen_alike flags s a b none later related ∙ chosen in
       subst (λ c. AreStandings (standing_next effect s ps c a) (next_in flags effect s b)) (sym chosen)
       (subst (λ c. AreStandings (standing_next effect s ps plain a) (standing_next effect s (params_in s b) c b)) (sym other)
-      (subst (λ x. AreStandings (standing_next effect s ps plain a) (standing_next effect s x plain b)) (sym (params_same s a b later))
+      (subst (λ x. AreStandings (standing_next effect s ps plain a) (standing_next effect s x plain b)) (sym (params_in_alike s a b later related))
       (next_by effect s ps forced same a b later related there)))
 
   -- ---- what follows
@@ -153,7 +158,7 @@ module _ (own : Path → Bool) (done : List Path) (area : IsOwn own) where
   due_in_same : (flags : Flags) (s : Stage) (a b : Standing) → flags.run_cache ≡ false → IsLater own done s → Related own done a b → due_in flags s b ≡ due_in flags s a
   unfolding due_with
   due_in_same flags s a b none later related =
-      ap (λ c. due_with s c (job_with s (params_in s b))) (ap (λ (c : Choice × Option Entry). c.0) (chosen_alike flags s a b none later related)) ∙ ap (λ ps. due_with s (chosen_in flags s a).0 (job_with s ps)) (params_same s a b later)
+      ap (λ c. due_with s c (job_with s (params_in s b))) (ap (λ (c : Choice × Option Entry). c.0) (chosen_alike flags s a b none later related)) ∙ ap (λ ps. due_with s (chosen_in flags s a).0 (job_with s ps)) (params_in_alike s a b later related)
 
   due_by : (flags : Flags) (effect : Effect) (s : Stage) (ss : List Stage) (a b : Standing) (o : Option Fault) → flags.run_cache ≡ false → IsLater own done s → Related own done a b → see_fault s a.tree ≡ o → see_fault s b.tree ≡ o → ((x y : Standing) → Related own done x y → due flags effect ss y ≡ due flags effect ss x) → due flags effect (s ∷ ss) b ≡ due flags effect (s ∷ ss) a
   due_by flags effect s ss a b (Some f) none later related here there rest =
@@ -184,7 +189,7 @@ module _ (own : Path → Bool) (done : List Path) (area : IsOwn own) where
       let later_fault : Standing → Option Fault = λ st. choice_fault effect s (params_in s st) (chosen_in flags s st).0 st.tree in
       let run = run_fault_alike own done s a.tree b.tree later.seen related.trees area effect (params_in s a) (deps_there s a.tree later.seen.stage here) in
       ap (λ o. first_fault o (later_fault b)) there
-      ∙ ap (λ ps. choice_fault effect s ps (chosen_in flags s b).0 b.tree) (params_same s a b later)
+      ∙ ap (λ ps. choice_fault effect s ps (chosen_in flags s b).0 b.tree) (params_in_alike s a b later related)
       ∙ ap (λ (c : Choice × Option Entry). choice_fault effect s (params_in s a) c.0 b.tree) (chosen_alike flags s a b none later related)
       ∙ choice_fault_same effect s (params_in s a) (chosen_in flags s a).0 a.tree b.tree run
       ∙ sym (ap (λ o. first_fault o (later_fault a)) here)

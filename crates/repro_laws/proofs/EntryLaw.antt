@@ -4,12 +4,11 @@
 --     skip_law       where a true entry is present, the values that stand are the effect's
 --     run_true       a present entry is true where the effect made what stands there
 --     true_told      so is an entry that tells what a true one tells
-use Rattle.std.proofs.Common.{◌≡◌, ◌≢◌, ℕ, Bool, true, false, cond, ◌&&◌, List, [], ◌∷◌, map, refl, sym, ap, ◌∙◌, Option, Some, None, Result, Ok}
+use Rattle.std.proofs.Common.{◌≡◌, ◌≢◌, ℕ, Bool, true, false, cond, ◌&&◌, List, [], ◌∷◌, map, refl, sym, ap, ◌∙◌, Option, Some, None, Ok}
 use Rattle.std.specs.List.{AllByRecursion}
 use Rattle.std.proofs.lemmas.Option.{same_Some}
 use Rattle.dvc_base.specs.Path.{Path}
 use Rattle.dvc_base.specs.declared.data.ParamFile.{ParamFile}
-use Rattle.dvc_base.specs.declared.fault.Fault.{Fault}
 use Rattle.world_api.specs.Tree.{Tree, Value, nothing, content, members, value_at}
 use Rattle.world_api.specs.Effect.{Effect, Invocation, gives, path_or_root, path_from, given_values, invocation_of}
 use Rattle.world_api.specs.History.{Book}
@@ -29,6 +28,7 @@ use Rattle.repro_laws.specs.declared.stage.Out.{Out}
 use Rattle.repro_laws.specs.declared.stage.Stage.{Stage}
 use Rattle.repro_laws.proofs.ListLemmas.{each_from, each_mapped, each_first}
 use Rattle.repro_laws.proofs.NameLaw.{name_law}
+use Rattle.repro_laws.proofs.ParamLemmas.{read_same}
 use Rattle.repro_laws.proofs.SameLemmas.{seen_fields}
 
 -- ---- lists
@@ -226,12 +226,9 @@ skip_law book effect e s t is told present covers =
       made = ap effect (sym (given_same e s t present told.ins is ins)) ∙ told.ran ∙ ap gives (outs ∙ outs_values t s.made);
     }
 
-same_params : (ps qs : List ParamFile) → ◌≡◌ {A = Result (List ParamFile) Fault} (Ok ps) (Ok qs) → ps ≡ qs
-same_params ps qs e = cc
-
 pub run_true : (book : Book) (effect : Effect) (e : Entry) (s : Stage) (t : Tree) → IsStage s → IsPresent e s t → Covers book t s → IsMade effect s t → IsTrueEntry book effect e
 run_true book effect e s t is present covers made =
-    let ps : present.params ≡ made.params = same_params present.params made.params (sym present.read ∙ made.read) in
+    let ps : present.params ≡ made.params = read_same present.params made.params (sym present.read ∙ made.read) in
     record {
       ins = map (dep_value t) s.deps;
       outs = map (λ o. value_at t o.path) s.made;

@@ -21,7 +21,8 @@ use Rattle.repro_laws.specs.Headline.{IsOwn, IsApart, IsKept, IsPlanned, is_orde
 use Rattle.repro_laws.specs.declared.stage.Stage.{Stage}
 use Rattle.repro_laws.proofs.ListLemmas.{each_from, each_both, each_first, each_second, each_all}
 use Rattle.repro_laws.proofs.FileLemmas.{only_file, file_at, value_kept, roads_tree}
-use Rattle.repro_laws.proofs.ReadLemmas.{seen_deps, same_params}
+use Rattle.repro_laws.proofs.ParamLemmas.{params_by_files}
+use Rattle.repro_laws.proofs.ReadLemmas.{seen_deps}
 use Rattle.repro_laws.proofs.DepLaw.{Related, IsMarked, IsRead, read_value}
 use Rattle.repro_laws.proofs.StepLaw.{IsNext, reads_deps, reads_params, HasStep, step_law}
 use Rattle.repro_laws.proofs.StayLaw.{lefts_stand, lefts_stay, lefts_others, names_among, entry_moves, entries_stand}
@@ -170,7 +171,7 @@ module _ (own : Path → Bool) (all : List Path) (now fold : Tree) (tree : IsTre
       let deps : AllByRecursion (λ d. dep_value fold d ≡ dep_value now d) s.deps =
       each_both (IsRead own all []) (λ d. is_nothing (dep_value now d) ≡ false) (λ d. dep_value fold d ≡ dep_value now d) s.deps (λ d r h. ap (value_inside d.inside) (read_value own all all [] now fold tree related (sym (append-nil all)) d r h)) reads (seen_deps has.entry s now has.present) in
       let params : params_at s fold ≡ params_at s now =
-      same_params now fold s.params (each_from (λ w. (list_any (overlap w.path) [] ≡ false) × IsApart own w.path) (λ w. file_at fold w.path ≡ file_at now w.path) s.params (λ w x. file_same w.path x.1 w.path (under-refl w.path)) (reads_params own [] s kept (none_pending (read_paths s)))) in
+      params_by_files s now fold (each_from (λ w. (list_any (overlap w.path) [] ≡ false) × IsApart own w.path) (λ w. file_at fold w.path ≡ file_at now w.path) s.params (λ w x. file_same w.path x.1 w.path (under-refl w.path)) (reads_params own [] s kept (none_pending (read_paths s)))) in
       entry_moves lock s now fold has deps outs params
 
   entries_anew : (lock : Lock) (ss : List Stage) → AllByRecursion (IsKept own) ss → AllByRecursion (λ s. AllByRecursion (IsMarked all) s.deps) ss → AllByRecursion (λ out. value_at fold out ≡ value_at now out) (flat_map stage_outs ss) → AllByRecursion (HasEntry lock now) ss → AllByRecursion (HasEntry lock fold) ss

@@ -21,6 +21,7 @@ pub mod LoneLemmas
 pub mod MomentLemmas
 pub mod NameLaw
 pub mod NamedLemmas
+pub mod ParamLemmas
 pub mod PlaceLemmas
 pub mod PlanDue
 pub mod PutLaw

@@ -1,31 +1,14 @@
--- One stage alone, and a stage without parameters.
---     no_params_read    such a stage reads none
---     see_without       nor is it refused by them
+-- One stage alone.
 --     lone_fault        the refusal of one stage is that of its turn
 --     lone_due          its turn is all that is due, where all of it is seen
 --     lone_refused      and nothing is, where something can't be
-use Rattle.std.proofs.Common.{◌≡◌, cond, List, [], ◌∷◌, refl, ap, ◌∙◌, Option, Some, None, is_some, Ok}
-use Rattle.dvc_base.specs.Answer.{fault_in}
+use Rattle.std.proofs.Common.{◌≡◌, cond, List, [], ◌∷◌, refl, ap, ◌∙◌, Option, Some, None, is_some}
 use Rattle.dvc_base.specs.declared.fault.Fault.{Fault}
-use Rattle.world_api.specs.Tree.{Tree}
 use Rattle.world_api.specs.Effect.{Effect}
-use Rattle.repro_laws.specs.Params.{tracked_at}
-use Rattle.repro_laws.specs.Stage.{params_at}
-use Rattle.repro_laws.specs.Refusals.{first_fault, deps_fault, present_fault, see_fault}
+use Rattle.repro_laws.specs.Refusals.{first_fault, see_fault}
 use Rattle.repro_laws.specs.Due.{Standing, Due, next_in, following, due_in, due, turn_fault, fault_of}
 use Rattle.repro_laws.specs.declared.stage.Stage.{Stage}
 use Rattle.repro_laws.specs.declared.stage.Flags.{Flags}
-
--- ---- no parameters
-
-pub no_params_read : (s : Stage) (t : Tree) → s.params ≡ [] → params_at s t ≡ Ok []
-no_params_read s t none = ap (tracked_at t) none
-
-pub see_without : (s : Stage) (t : Tree) → s.params ≡ [] → see_fault s t ≡ first_fault (deps_fault s t) (present_fault s t)
-see_without s t none =
-    ap (λ o. first_fault (deps_fault s t) (first_fault (fault_in o) (present_fault s t))) (no_params_read s t none)
-
--- ---- one stage
 
 ends : {A : Type 0} (a : A) (o : Option Standing) → following (λ st. a) a o ≡ a
 ends a None = refl

@@ -2,21 +2,15 @@
 --     outside_own          what lies below a path that a stage reads
 --     seen_deps, seen_outs, stood_deps     something stands at each of a stage's paths
 --     stay_value           a value stays where nothing changes but folders that are made elsewhere
---     same_given, same_params     equal values and files give a stage's job the same
-use Rattle.std.proofs.Common.{◌≡◌, ℕ, Bool, true, false, cond, List, [], ◌∷◌, ◌++◌, map, refl, sym, ap, subst, ◌∙◌, inl, inr, Option, Some, None, is_some, IsSome, Result, Err, nat_lt, length}
+--     same_given           equal values give a stage's job the same
+use Rattle.std.proofs.Common.{◌≡◌, ℕ, Bool, true, false, List, [], ◌∷◌, ◌++◌, map, refl, sym, ap, subst, ◌∙◌, inl, inr, Option, Some, None, is_some, IsSome}
 use Rattle.std.specs.List.{AllByRecursion, list_any, list_all}
 use Rattle.std.proofs.lemmas.Bool.{false≢true, and_parts, or_parts, or_from, both_ways, false_from_ne_true}
 use Rattle.dvc_base.specs.Path.{Path, under, overlap}
-use Rattle.dvc_base.specs.Limits.{limit_of}
-use Rattle.dvc_base.specs.declared.limits.What.TheVariants.{YamlText}
-use Rattle.dvc_base.specs.declared.node.Node.{Node}
 use Rattle.dvc_base.specs.declared.fault.Fault.{Fault}
 use Rattle.dvc_base.specs.declared.data.ParamFile.{ParamFile}
 use Rattle.dvc_base.proofs.PathLemmas.{under-append, under-refl, under-overlap}
-use Rattle.params.specs.Read.{params_at, params_in}
-use Rattle.params.specs.declared.fault.ParamsFault.{ParamsFault}
-use Rattle.params.specs.declared.fault.ParamsFault.TheVariants as f
-use Rattle.world_api.specs.Tree.{Tree, Item, folder, file, Value, nothing, content, members, IsTree, item_at, value_at}
+use Rattle.world_api.specs.Tree.{Tree, Value, nothing, content, members, IsTree, item_at, value_at}
 use Rattle.world_api.specs.Effect.{Invocation, path_or_root, path_from, given_values, invocation_of, is_in_any}
 use Rattle.file_hash.specs.Naming.{named_of}
 use Rattle.lock_files.specs.declared.entry.Entry.{Entry}
@@ -25,14 +19,12 @@ use Rattle.change_check.specs.Same.{canonical_files, seen_path}
 use Rattle.change_check.specs.declared.seen.SeenPath.{SeenPath}
 use Rattle.change_check.specs.declared.seen.Seen.{Seen}
 use Rattle.repro_laws.specs.Stage.{out_path, dep_text, out_text, stage_outs, value_inside, dep_value, is_nothing, job_with, Names, IsStage}
-use Rattle.repro_laws.specs.Params.{with_first, file_read, tracked_at}
 use Rattle.repro_laws.specs.Entries.{seen_dep, seen_out, IsPresent}
 use Rattle.repro_laws.specs.Refusals.{first_fault, first_of, refused_dep, see_fault, deps_fault}
 use Rattle.repro_laws.specs.Turns.{IsLeftAt}
 use Rattle.repro_laws.specs.Headline.{IsApart}
 use Rattle.repro_laws.specs.declared.stage.Dep.{Dep}
 use Rattle.repro_laws.specs.declared.stage.Out.{Out}
-use Rattle.repro_laws.specs.declared.stage.Tracked.{Tracked}
 use Rattle.repro_laws.specs.declared.stage.Stage.{Stage}
 use Rattle.repro_laws.proofs.ListLemmas.{each_map, each_in_order, any_parts}
 use Rattle.repro_laws.proofs.FileLemmas.{only_file, file_at, file_by_item, rootless_file, value_kept, absent}
@@ -150,27 +142,3 @@ invocation_with s ps given = record { commands = s.commands; deps = given; param
 pub same_given : (s : Stage) (ps : List ParamFile) (t u : Tree) → IsStage s → AllByRecursion (λ d. value_at u d.path ≡ value_at t d.path) s.deps → invocation_of (job_with s ps) u ≡ invocation_of (job_with s ps) t
 same_given s ps t u stage same =
     ap (invocation_with s ps) (given_same t u s.dir s.deps stage.dep_names same)
-
--- ---- parameters
-
-abbrev read_only : Option (List ℕ) → Result Node ParamsFault
-read_only None = Err f.NoFile
-read_only (Some text) = cond (nat_lt (limit_of YamlText) (length text)) (Err f.TooLarge) (params_in text)
-
-read_by : (o : Option Item) → params_at o ≡ read_only (only_file o)
-read_by None = refl
-read_by (Some folder) = refl
-read_by (Some (file bytes)) = refl
-
-only_items : (t u : Tree) (p : Path) → file_at u p ≡ file_at t p → only_file (item_at u p) ≡ only_file (item_at t p)
-only_items t u [] e = refl
-only_items t u (c ∷ p) e = e
-
--- a folder is no file of parameters, and neither is nothing
-params_read : (t u : Tree) (p : Path) → file_at u p ≡ file_at t p → params_at (item_at u p) ≡ params_at (item_at t p)
-params_read t u p e = read_by (item_at u p) ∙ ap read_only (only_items t u p e) ∙ sym (read_by (item_at t p))
-
-pub same_params : (t u : Tree) (ws : List Tracked) → AllByRecursion (λ w. file_at u w.path ≡ file_at t w.path) ws → tracked_at u ws ≡ tracked_at t ws
-same_params t u [] same = refl
-same_params t u (w ∷ ws) same =
-    ap (λ (r : Result Node ParamsFault). with_first (file_read w r) (tracked_at u ws)) (params_read t u w.path same.0) ∙ ap (with_first (file_read w (params_at (item_at t w.path)))) (same_params t u ws same.1)

@@ -2,7 +2,7 @@
 --     restored_from       a restore is from the lock's entry, which is present afterwards
 --     truthful_by_runs    a lock stays truthful in turns, where the entries of runs are true
 -- By names alone: nothing is asked of the book but for the runs.
-use Rattle.std.proofs.Common.{◌≡◌, ℕ, Bool, true, false, cond, ◌||◌, List, [], ◌∷◌, map, refl, sym, ap, subst, ◌∙◌, Option, Some, None, Result, Ok}
+use Rattle.std.proofs.Common.{◌≡◌, ℕ, Bool, true, false, cond, ◌||◌, List, [], ◌∷◌, map, refl, sym, ap, subst, ◌∙◌, Option, Some, None, Ok}
 use Rattle.std.specs.Prelude.{bytes_eq}
 use Rattle.std.specs.Option.{option_or}
 use Rattle.std.specs.List.{AllByRecursion}
@@ -11,7 +11,6 @@ use Rattle.std.proofs.lemmas.Bool.{and_parts}
 use Rattle.std.proofs.lemmas.Option.{same_Some, cond_some}
 use Rattle.dvc_base.specs.Path.{Path}
 use Rattle.dvc_base.specs.declared.data.ParamFile.{ParamFile}
-use Rattle.dvc_base.specs.declared.fault.Fault.{Fault}
 use Rattle.world_api.specs.Tree.{Tree, Value, IsTree, value_at}
 use Rattle.world_api.specs.Effect.{Effect}
 use Rattle.world_api.specs.History.{Book}
@@ -39,9 +38,9 @@ use Rattle.repro_laws.specs.declared.stage.Choice.{Choice}
 use Rattle.repro_laws.specs.declared.stage.Choice.TheVariants.{Skip, Restore, Run}
 use Rattle.repro_laws.proofs.EntryLaw.{true_told}
 use Rattle.repro_laws.proofs.ListLemmas.{each_from, map_same}
+use Rattle.repro_laws.proofs.ParamLemmas.{read_same}
 use Rattle.repro_laws.proofs.SameLemmas.{bytes_same, path_fields, seen_fields, inputs_same}
 use Rattle.repro_laws.proofs.SetLemmas.{entry_of-set_same, truthful_set}
-use Rattle.repro_laws.proofs.SkipLaw.{no_params}
 use Rattle.repro_laws.proofs.TurnLaw.{chosen_first, turn_read, turn_entry, deps_kept}
 use Rattle.repro_laws.proofs.TurnsLaw.{IsLine, turns_keep_entry}
 
@@ -99,7 +98,7 @@ restored_from own flags s ps from m n is kept order old new read again none chos
     let paths = pointwise (λ (p : PathEntry) (o : SeenPath). bytes_eq p.path o.path) from.outs (map (seen_out m.tree) s.made) in
     let agreed = (and_parts (agrees from seen) (can_have_all stored s.made seen.outs from.outs) found.1).0 in
     let parts = and_parts (same_inputs from seen) paths agreed in
-    let ins = inputs_same from seen (ap canonical_files (no_params s m.tree ps is read)) parts.0 in
+    let ins = inputs_same from seen parts.0 in
     record {
       there = found.0;
       present = record {
@@ -112,13 +111,10 @@ restored_from own flags s ps from m n is kept order old new read again none chos
 
 -- ---- the truth of a lock
 
-same_read : (ps qs : List ParamFile) → ◌≡◌ {A = Result (List ParamFile) Fault} (Ok ps) (Ok qs) → ps ≡ qs
-same_read ps qs e = cc
-
 -- two entries that are present tell the same
 both_present : (a b : Entry) (s : Stage) (t : Tree) → IsPresent a s t → IsPresent b s t → seen_of a ≡ seen_of b
 both_present a b s t x y =
-    x.same ∙ ap (λ (ps : List ParamFile). seen_at s ps t) (same_read x.params y.params (sym x.read ∙ y.read)) ∙ sym y.same
+    x.same ∙ ap (λ (ps : List ParamFile). seen_at s ps t) (read_same x.params y.params (sym x.read ∙ y.read)) ∙ sym y.same
 
 -- the entry that the lock has is true
 abbrev pub HasTrue : Book → Effect → Lock → Stage → Type 0

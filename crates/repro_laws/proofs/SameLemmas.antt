@@ -1,7 +1,7 @@
--- An entry is the same as what is seen exactly where it tells just that: of stages without parameters.
+-- An entry is the same as what is seen exactly where it tells just that.
 --     inputs_same    the inputs that are the same
 --     seen_same      what is the same
---     seen_found     and where it is
+--     seen_found     and where it is, of parameters that can be compared
 use Rattle.std.proofs.Common.{◌≡◌, ℕ, Bool, true, false, ◌&&◌, List, [], ◌∷◌, map, refl, sym, ap, subst, ◌∙◌, Option, Some, None, Decides, eqb}
 use Rattle.std.specs.Prelude.{bytes_eq}
 use Rattle.std.specs.Cmp.Lexicographic.{pointwise}
@@ -9,12 +9,19 @@ use Rattle.std.proofs.lemmas.Bool.{and_parts, and_from, false≢true, not-true, 
 use Rattle.std.proofs.lemmas.Slice.Eq.{bytes_eq-Decides, slice_eq-Decides}
 use Rattle.dvc_base.specs.Name.{ObjectName}
 use Rattle.dvc_base.specs.declared.data.ParamFile.{ParamFile}
+use Rattle.dvc_base.specs.declared.node.Pair.{Pair}
 use Rattle.file_hash.specs.declared.named.Named.{Named}
 use Rattle.lock_files.specs.declared.entry.Entry.{Entry}
 use Rattle.lock_files.specs.declared.entry.PathEntry.{PathEntry}
-use Rattle.change_check.specs.Same.{canonical_files, told_of, seen_path, seen_of, same_truth, same_count, same_named, is_named, same_path, same_file, same_inputs, same_entry}
+use Rattle.yaml_nodes.specs.Part.{key_of}
+use Rattle.yaml_print.specs.Print.{value_of}
+use Rattle.yaml_print.specs.Sound.{Each}
+use Rattle.params.proofs.PairLemmas.{same_pair as pair_fields}
+use Rattle.change_check.specs.Same.{canonical_files, told_of, seen_path, seen_of, same_truth, same_count, same_named, is_named, same_path, same_node, same_pair, same_file, same_inputs, same_entry}
+use Rattle.change_check.specs.Sound.{IsCanonicalPair, AreCanonical}
 use Rattle.change_check.specs.declared.seen.SeenPath.{SeenPath}
 use Rattle.change_check.specs.declared.seen.Seen.{Seen}
+use Rattle.change_check.proofs.NodeLemmas.{list_same, list_itself, node_same, node_decides}
 
 pub bytes_same : (a b : List ℕ) → bytes_eq a b ≡ true → a ≡ b
 bytes_same a b e = (bytes_eq-Decides a b).0 e
@@ -102,18 +109,34 @@ paths_itself [] = refl
 paths_itself (a ∷ as') =
     and_from (same_path a (seen_path a)) (pointwise same_path as' (map seen_path as')) (path_itself a) (paths_itself as')
 
+-- ---- parameters
+
+pair_same : (p q : Pair) → same_pair p q ≡ true → p ≡ q
+pair_same p q e =
+    let parts = and_parts (bytes_eq (key_of p) (key_of q)) (same_node 64 (value_of p) (value_of q)) e in
+    pair_fields p q (bytes_same (key_of p) (key_of q) parts.0) (node_same 64 (value_of p) (value_of q) parts.1)
+
+pair_itself : (p : Pair) → IsCanonicalPair p → same_pair p p ≡ true
+pair_itself p h =
+    and_from (bytes_eq (key_of p) (key_of p)) (same_node 64 (value_of p) (value_of p)) (bytes_itself (key_of p)) ((node_decides 64 (value_of p) (value_of p) h.0).1 refl)
+
+file_fields : (a b : List ℕ) (ps qs : List Pair) → a ≡ b → ps ≡ qs → ◌≡◌ {A = ParamFile} (record { file = a; keys = ps }) (record { file = b; keys = qs })
+file_fields a b ps qs e f =
+    ap (λ (z : List ℕ). record { file = z; keys = ps }) e ∙ ap (λ (z : List Pair). record { file = b; keys = z }) f
+
+file_same : (f g : ParamFile) → same_file f g ≡ true → f ≡ g
+file_same f g e =
+    let parts = and_parts (bytes_eq f.file g.file) (pointwise same_pair f.keys g.keys) e in
+    file_fields f.file g.file f.keys g.keys (bytes_same f.file g.file parts.0) (list_same same_pair pair_same f.keys g.keys parts.1)
+
+file_itself : (f : ParamFile) → Each IsCanonicalPair f.keys → same_file f f ≡ true
+file_itself f h =
+    and_from (bytes_eq f.file f.file) (pointwise same_pair f.keys f.keys) (bytes_itself f.file) (list_itself same_pair IsCanonicalPair pair_itself f.keys h)
+
 -- ---- entries
 
 texts-Decides : (a b : List (List ℕ)) → Decides (pointwise bytes_eq a b) (a ≡ b)
 texts-Decides a b = slice_eq-Decides bytes_eq-Decides a b (pointwise bytes_eq a b) refl
-
-none_same : (fs gs : List ParamFile) → gs ≡ [] → pointwise same_file fs gs ≡ true → fs ≡ gs
-none_same [] gs e h = sym e
-none_same (f ∷ fs) gs e h =
-    absurd (false≢true (subst (λ (x : List ParamFile). pointwise same_file (f ∷ fs) x ≡ true) e h))
-
-none_itself : (fs : List ParamFile) → fs ≡ [] → pointwise same_file fs fs ≡ true
-none_itself fs e = ap (λ (x : List ParamFile). pointwise same_file x x) e
 
 pub seen_fields : (a b : List (List ℕ)) (c d e f : List SeenPath) (g h : List ParamFile) → a ≡ b → c ≡ d → e ≡ f → g ≡ h → ◌≡◌ {A = Seen} (record { commands = a; deps = c; params = g; outs = e }) (record { commands = b; deps = d; params = h; outs = f })
 seen_fields a b c d e f g h x y z w =
@@ -125,8 +148,8 @@ pub record AreInputs (e : Entry) (s : Seen) : Type 0 where
   pub deps : map seen_path e.deps ≡ s.deps
   pub params : canonical_files e.params ≡ s.params
 
-pub inputs_same : (e : Entry) (s : Seen) → s.params ≡ [] → same_inputs e s ≡ true → AreInputs e s
-inputs_same e s none h =
+pub inputs_same : (e : Entry) (s : Seen) → same_inputs e s ≡ true → AreInputs e s
+inputs_same e s h =
     let commands = pointwise bytes_eq e.commands s.commands in
     let deps = pointwise same_path e.deps s.deps in
     let params = pointwise same_file (canonical_files e.params) s.params in
@@ -135,23 +158,23 @@ inputs_same e s none h =
     record {
       commands = (texts-Decides e.commands s.commands).0 first.0;
       deps = paths_same e.deps s.deps next.0;
-      params = none_same (canonical_files e.params) s.params none next.1;
+      params = list_same same_file file_same (canonical_files e.params) s.params next.1;
     }
 
-pub seen_same : (e : Entry) (s : Seen) → s.params ≡ [] → same_entry e s ≡ true → seen_of e ≡ s
-seen_same e s none h =
+pub seen_same : (e : Entry) (s : Seen) → same_entry e s ≡ true → seen_of e ≡ s
+seen_same e s h =
     let whole = and_parts (same_inputs e s) (pointwise same_path e.outs s.outs) h in
-    let ins = inputs_same e s none whole.0 in
+    let ins = inputs_same e s whole.0 in
     seen_fields e.commands s.commands (map seen_path e.deps) s.deps (map seen_path e.outs) s.outs (canonical_files e.params) s.params ins.commands ins.deps (paths_same e.outs s.outs whole.1) ins.params
 
-seen_itself : (e : Entry) → canonical_files e.params ≡ [] → same_entry e (seen_of e) ≡ true
-seen_itself e none =
+seen_itself : (e : Entry) → AreCanonical (canonical_files e.params) → same_entry e (seen_of e) ≡ true
+seen_itself e canonical =
     let commands = pointwise bytes_eq e.commands e.commands in
     let deps = pointwise same_path e.deps (map seen_path e.deps) in
     let params = pointwise same_file (canonical_files e.params) (canonical_files e.params) in
     let outs = pointwise same_path e.outs (map seen_path e.outs) in
-    and_from (commands && (deps && params)) outs (and_from commands (deps && params) ((texts-Decides e.commands e.commands).1 refl) (and_from deps params (paths_itself e.deps) (none_itself (canonical_files e.params) none))) (paths_itself e.outs)
+    and_from (commands && (deps && params)) outs (and_from commands (deps && params) ((texts-Decides e.commands e.commands).1 refl) (and_from deps params (paths_itself e.deps) (list_itself same_file (λ f. Each IsCanonicalPair f.keys) file_itself (canonical_files e.params) canonical))) (paths_itself e.outs)
 
-pub seen_found : (e : Entry) (s : Seen) → s.params ≡ [] → seen_of e ≡ s → same_entry e s ≡ true
-seen_found e s none same =
-    subst (λ (x : Seen). same_entry e x ≡ true) same (seen_itself e (ap (λ (x : Seen). x.params) same ∙ none))
+pub seen_found : (e : Entry) (s : Seen) → AreCanonical s.params → seen_of e ≡ s → same_entry e s ≡ true
+seen_found e s canonical same =
+    subst (λ (x : Seen). same_entry e x ≡ true) same (seen_itself e (subst AreCanonical (sym (ap (λ (x : Seen). x.params) same)) canonical))

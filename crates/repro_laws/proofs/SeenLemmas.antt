@@ -1,9 +1,10 @@
 -- What is seen of a stage in two trees that show the same.
 --     IsSeenIn own done s      what that asks of the stage
+--     params_alike             the parameters
 --     see_alike, seen_alike, entry_alike, way_alike     refusals, what is seen, the entry, and the files on its ways
---     chosen_alike             the choice, where nothing is restored
 --     run_fault_alike          and the refusal of a run, where each dependency is there
-use Rattle.std.proofs.Common.{◌≡◌, ℕ, Bool, true, false, cond, ◌||◌, List, [], ◌∷◌, map, refl, sym, ap, subst, ◌∙◌, Option, Some, None, Ok}
+--     chosen_plain             the choice, where nothing is restored
+use Rattle.std.proofs.Common.{◌≡◌, ℕ, Bool, true, false, cond, ◌||◌, List, [], ◌∷◌, map, refl, sym, ap, subst, ◌∙◌, Option, Some, None}
 use Rattle.std.specs.List.{AllByRecursion, list_any}
 use Rattle.std.proofs.lemmas.Bool.{or_parts, or_from}
 use Rattle.dvc_base.specs.Path.{Path}
@@ -22,8 +23,7 @@ use Rattle.lock_files.specs.Book.{Lock, entry_of}
 use Rattle.change_check.specs.Same.{canonical_files}
 use Rattle.change_check.specs.declared.seen.SeenPath.{SeenPath}
 use Rattle.change_check.specs.declared.seen.Seen.{Seen}
-use Rattle.repro_laws.specs.Params.{tracked_at}
-use Rattle.repro_laws.specs.Stage.{dep_path, tracked_path, out_path, dep_value, is_nothing, params_at, dep_text, out_text, job_with, Names, IsStage}
+use Rattle.repro_laws.specs.Stage.{out_path, dep_value, is_nothing, params_at, dep_text, out_text, job_with, Names, IsStage}
 use Rattle.repro_laws.specs.Entries.{seen_dep, seen_out, seen_at, all_named, entry_from, entry_at}
 use Rattle.repro_laws.specs.Stored.{Stored}
 use Rattle.repro_laws.specs.Choices.{is_same_as, entry_to_restore, restore_or_run, choice_of}
@@ -37,22 +37,16 @@ use Rattle.repro_laws.specs.declared.stage.Stage.{Stage}
 use Rattle.repro_laws.specs.declared.stage.Flags.{Flags}
 use Rattle.repro_laws.specs.declared.stage.Choice.{Choice}
 use Rattle.repro_laws.specs.declared.stage.Choice.TheVariants.{Skip, Run}
-use Rattle.repro_laws.proofs.AlikeLemmas.{is_inside, Alike, each_on, each_two, each_front, each_mapped, each_ordered, each_written, map_same, value_alike, IsDepAlike, dep_alike}
+use Rattle.repro_laws.proofs.FileLemmas.{file_at}
+use Rattle.repro_laws.proofs.AlikeLemmas.{is_inside, Alike, each_on, each_two, each_mapped, each_ordered, each_written, map_same, value_alike, IsDepAlike, dep_alike}
 use Rattle.repro_laws.proofs.GrowLemmas.{not_own_above, file_on_alike}
+use Rattle.repro_laws.proofs.ParamLemmas.{reads_each, params_by_files}
 
 pub record IsSeenIn (own : Path → Bool) (done : List Path) (s : Stage) : Type 0 where
   pub stage : IsStage s
   pub kept : IsKept own s
   pub deps : AllByRecursion (λ d. is_inside done d.path ≡ true → d.inside ≡ true) s.deps
   pub outs : AllByRecursion (λ o. is_inside done o.path ≡ false) s.made
-
--- ---- parameters
-
-pub none_read : (s : Stage) (t : Tree) → IsStage s → params_at s t ≡ Ok []
-none_read s t is = ap (tracked_at t) is.no_params
-
-pub params_none : (s : Stage) (st : Standing) → IsStage s → params_in s st ≡ []
-params_none s st is = ap Rattle.repro_laws.specs.Due.params_or_none (none_read s st.tree is)
 
 -- ---- refusals that aren't due
 
@@ -126,8 +120,7 @@ path_with text v = record { path = text; named = named_of v }
 module _ (own : Path → Bool) (done : List Path) (s : Stage) (t u : Tree) (in' : IsSeenIn own done s) (alike : Alike own done t u) where
   pub deps_alike : AllByRecursion (IsDepAlike t u) s.deps
   deps_alike =
-      let reads = (each_front (IsApart own) (map dep_path s.deps) (map tracked_path s.params) in'.kept.reads).0 in
-      each_two (λ d. IsApart own d.path) (λ d. is_inside done d.path ≡ true → d.inside ≡ true) (IsDepAlike t u) s.deps (λ d a m. dep_alike own done t u d alike a (a d.path (under-refl d.path)) m) (each_mapped dep_path (IsApart own) s.deps reads) in'.deps
+      each_two (λ d. IsApart own d.path) (λ d. is_inside done d.path ≡ true → d.inside ≡ true) (IsDepAlike t u) s.deps (λ d a m. dep_alike own done t u d alike a (a d.path (under-refl d.path)) m) (reads_each (IsApart own) s in'.kept.reads).0 in'.deps
 
   looks_alike : AllByRecursion (IsDepAlike t u) s.looks
   looks_alike =
@@ -141,8 +134,10 @@ module _ (own : Path → Bool) (done : List Path) (s : Stage) (t u : Tree) (in' 
   written_alike =
       each_written out_text (λ o. value_at u o.path ≡ value_at t o.path) s.outs (subst (AllByRecursion (λ (o : Out). value_at u o.path ≡ value_at t o.path)) in'.stage.made outs_alike)
 
+  -- a file of parameters may lie inside an output: files are the same there as well
   pub params_alike : params_at s u ≡ params_at s t
-  params_alike = none_read s u in'.stage ∙ sym (none_read s t in'.stage)
+  params_alike =
+      params_by_files s t u (each_on (λ w. IsApart own w.path) (λ w. file_at u w.path ≡ file_at t w.path) s.params (λ w a. alike.files w.path (a w.path (under-refl w.path))) (reads_each (IsApart own) s in'.kept.reads).1)
 
   pub see_alike : see_fault s u ≡ see_fault s t
   see_alike =
@@ -206,6 +201,5 @@ unfolding plain_choice
 choice_plain flags s seen stored lock e =
     ap (λ b. cond (flags.force || s.always) (Run, None) (cond (is_same_as (entry_of lock s.name) seen) (Skip, None) (cond b (restore_or_run (entry_to_restore stored s seen lock)) (Run, None)))) e
 
-pub chosen_plain : (flags : Flags) (s : Stage) (st : Standing) → flags.run_cache ≡ false → IsStage s → chosen_in flags s st ≡ plain_choice flags s (seen_at s [] st.tree) st.lock
-chosen_plain flags s st e is =
-    choice_plain flags s (seen_at s (params_in s st) st.tree) st.stored st.lock e ∙ ap (λ ps. plain_choice flags s (seen_at s ps st.tree) st.lock) (params_none s st is)
+pub chosen_plain : (flags : Flags) (s : Stage) (st : Standing) → flags.run_cache ≡ false → chosen_in flags s st ≡ plain_choice flags s (seen_at s (params_in s st) st.tree) st.lock
+chosen_plain flags s st e = choice_plain flags s (seen_at s (params_in s st) st.tree) st.stored st.lock e

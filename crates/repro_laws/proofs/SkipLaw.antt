@@ -1,17 +1,14 @@
 -- When a stage is skipped.
---     no_params       a stage without parameters reads none, in any tree
 --     skip_parts      a skip is chosen only where nothing is forced, and the lock's entry is the present one
 --     skip_exact      and exactly there
-use Rattle.std.proofs.Common.{◌≡◌, Bool, true, false, cond, ◌||◌, List, [], refl, sym, ap, ◌∙◌, Option, Some, None, Result, Ok}
+use Rattle.std.proofs.Common.{◌≡◌, Bool, true, false, cond, ◌||◌, List, refl, sym, ap, ◌∙◌, Option, Some, None, Ok}
 use Rattle.std.proofs.lemmas.Bool.{false≢true}
 use Rattle.dvc_base.specs.declared.data.ParamFile.{ParamFile}
-use Rattle.dvc_base.specs.declared.fault.Fault.{Fault}
 use Rattle.world_api.specs.Tree.{Tree}
 use Rattle.lock_files.specs.declared.entry.Entry.{Entry}
 use Rattle.lock_files.specs.Book.{Lock, entry_of}
-use Rattle.change_check.specs.Same.{canonical_files, seen_of, same_entry}
+use Rattle.change_check.specs.Same.{seen_of, same_entry}
 use Rattle.change_check.specs.declared.seen.Seen.{Seen}
-use Rattle.repro_laws.specs.Params.{tracked_at}
 use Rattle.repro_laws.specs.Stage.{params_at, IsStage}
 use Rattle.repro_laws.specs.Entries.{seen_at}
 use Rattle.repro_laws.specs.Lock.{HasEntry}
@@ -19,31 +16,12 @@ use Rattle.repro_laws.specs.Stored.{stored_in}
 use Rattle.repro_laws.specs.Choices.{is_same_as, restore_or_run, entry_to_restore}
 use Rattle.repro_laws.specs.Due.{standing_of, choice_at}
 use Rattle.repro_laws.specs.Headline.{SkipIsExact}
-use Rattle.repro_laws.specs.declared.stage.Tracked.{Tracked}
 use Rattle.repro_laws.specs.declared.stage.Stage.{Stage}
 use Rattle.repro_laws.specs.declared.stage.Flags.{Flags}
 use Rattle.repro_laws.specs.declared.stage.Choice.{Choice}
 use Rattle.repro_laws.specs.declared.stage.Choice.TheVariants.{Skip, Run}
+use Rattle.repro_laws.proofs.ParamLemmas.{read_same, params_form, canonical_of_params}
 use Rattle.repro_laws.proofs.SameLemmas.{seen_same, seen_found}
-
--- ---- parameters
-
-none_tracked : (t : Tree) (ws : List Tracked) → ws ≡ [] → tracked_at t ws ≡ Ok []
-none_tracked t ws e = ap (tracked_at t) e
-
-pub none_read : (s : Stage) (t : Tree) → IsStage s → params_at s t ≡ Ok []
-none_read s t is = none_tracked t s.params is.no_params
-
-same_read : (ps qs : List ParamFile) → ◌≡◌ {A = Result (List ParamFile) Fault} (Ok ps) (Ok qs) → ps ≡ qs
-same_read ps qs e = cc
-
-pub no_params : (s : Stage) (t : Tree) (ps : List ParamFile) → IsStage s → params_at s t ≡ Ok ps → ps ≡ []
-no_params s t ps is read = same_read ps [] (sym read ∙ none_read s t is)
-
-none_seen : (s : Stage) (t : Tree) (ps : List ParamFile) → ps ≡ [] → (seen_at s ps t).params ≡ []
-none_seen s t ps e = ap canonical_files e
-
--- ---- the choice
 
 pub record IsSame (o : Option Entry) (seen : Seen) : Type 0 where
   pub entry : Entry
@@ -71,13 +49,12 @@ pub skip_parts : (flags : Flags) (s : Stage) (ps : List ParamFile) (t : Tree) (l
 skip_parts flags s ps t lock is read e =
     let seen = seen_at s ps t in
     let chosen = forced_or_same (flags.force || s.always) (is_same_as (entry_of lock s.name) seen) flags.run_cache (entry_to_restore (stored_in t) s seen lock) e in
-    let found = same_parts (entry_of lock s.name) seen chosen.1 in
-    let none = none_seen s t ps (no_params s t ps is read) in (
+    let found = same_parts (entry_of lock s.name) seen chosen.1 in (
       chosen.0,
       record {
         entry = found.entry;
         there = found.there;
-        present = record { params = ps; read = read; same = seen_same found.entry seen none found.same };
+        present = record { params = ps; read = read; same = seen_same found.entry seen found.same };
       },
     )
 
@@ -85,10 +62,10 @@ skip_found : (flags : Flags) (s : Stage) (ps : List ParamFile) (t : Tree) (lock 
 skip_found flags s ps t lock is read free has =
     let seen = seen_at s ps t in
     let e = has.entry in
-    let same_ps : has.present.params ≡ ps = same_read has.present.params ps (sym has.present.read ∙ read) in
+    let same_ps : has.present.params ≡ ps = read_same has.present.params ps (sym has.present.read ∙ read) in
     let same : seen_of e ≡ seen = has.present.same ∙ ap (λ (x : List ParamFile). seen_at s x t) same_ps in
     let found : is_same_as (entry_of lock s.name) seen ≡ true =
-    ap (λ (o : Option Entry). is_same_as o seen) has.there ∙ seen_found e seen (none_seen s t ps (no_params s t ps is read)) same in
+    ap (λ (o : Option Entry). is_same_as o seen) has.there ∙ seen_found e seen (canonical_of_params ps (params_form s t ps is read)) same in
     skips (flags.force || s.always) (is_same_as (entry_of lock s.name) seen) (cond flags.run_cache (restore_or_run (entry_to_restore (stored_in t) s seen lock)) (Run, None)) free found
 
 pub skip_exact : SkipIsExact

@@ -31,7 +31,8 @@ use Rattle.repro_laws.proofs.ListLemmas.{each_from, each_both, each_mapped, map_
 use Rattle.repro_laws.proofs.RoadLemmas.{apart_later, apart_overlap}
 use Rattle.repro_laws.proofs.FileLemmas.{file_at, some_value}
 use Rattle.repro_laws.proofs.FolderLemmas.{some_none}
-use Rattle.repro_laws.proofs.ReadLemmas.{outside_outs, later_reads, stands_inside, seen_deps, seen_outs, left_files, Stay, stay_value, same_params}
+use Rattle.repro_laws.proofs.ParamLemmas.{params_by_files}
+use Rattle.repro_laws.proofs.ReadLemmas.{outside_outs, later_reads, stands_inside, seen_deps, seen_outs, left_files, Stay, stay_value}
 use Rattle.repro_laws.proofs.StepLaw.{outside_deps, reads_params}
 use Rattle.repro_laws.proofs.LockLaw.{entry_kept, others_wider}
 
@@ -125,7 +126,7 @@ module _ (own way : Path → Bool) (later : List Path) (s : Stage) (t u : Tree) 
 
   params_stay : params_at s u ≡ params_at s t
   params_stay =
-      same_params t u s.params (each_from (λ w. (list_any (overlap w.path) later ≡ false) × IsApart own w.path) (λ w. file_at u w.path ≡ file_at t w.path) s.params (λ w x. file_stays w.path x.0 x.1) (reads_params own later s apart.kept apart.reads))
+      params_by_files s t u (each_from (λ w. (list_any (overlap w.path) later ≡ false) × IsApart own w.path) (λ w. file_at u w.path ≡ file_at t w.path) s.params (λ w x. file_stays w.path x.0 x.1) (reads_params own later s apart.kept apart.reads))
 
   pub entry_stays : (lock : Lock) → HasEntry lock t s → HasEntry lock u s
   entry_stays lock has =

@@ -3,7 +3,7 @@
 --     Beside s k n       nothing was touched but the later stage's outputs, folders, and the tool's own
 --     run_stays          what a run made stands after the later turn as well
 --     stored_stays       and its cached outputs are in the cache
-use Rattle.std.proofs.Common.{◌≡◌, ◌≢◌, ℕ, Bool, true, false, ◌||◌, List, [], ◌∷◌, ◌++◌, map, inl, inr, refl, sym, ap, subst, ◌∙◌, append-nil, Option, Some, None, is_some, IsSome, Ok}
+use Rattle.std.proofs.Common.{◌≡◌, ◌≢◌, ℕ, Bool, true, false, ◌||◌, List, [], ◌∷◌, ◌++◌, map, inl, inr, refl, sym, ap, subst, ◌∙◌, append-nil, Option, Some, None, is_some, IsSome}
 use Rattle.std.specs.Prelude.{bytes_eq, codes}
 use Rattle.std.specs.List.{AllByRecursion, list_any, flat_map}
 use Rattle.std.proofs.lemmas.Bool.{false≢true, or_parts, or_from, and_parts, and_from, false_from_ne_true}
@@ -27,7 +27,7 @@ use Rattle.object_cache.specs.Store.{shelf_path, is_cache_folder}
 use Rattle.change_check.specs.Same.{canonical_files, seen_path, told_of}
 use Rattle.change_check.specs.declared.seen.SeenPath.{SeenPath}
 use Rattle.change_check.specs.declared.seen.Seen.{Seen}
-use Rattle.repro_laws.specs.Stage.{out_path, stage_outs, has_no_files, value_inside, dep_value, is_nothing, IsStage}
+use Rattle.repro_laws.specs.Stage.{out_path, stage_outs, value_inside, dep_value, is_nothing, IsStage}
 use Rattle.repro_laws.specs.Entries.{seen_dep, seen_out, seen_at}
 use Rattle.repro_laws.specs.Lock.{HasEntry}
 use Rattle.repro_laws.specs.Due.{Due}
@@ -40,7 +40,8 @@ use Rattle.repro_laws.specs.declared.stage.Stage.{Stage}
 use Rattle.repro_laws.specs.declared.stage.Flags.{Flags}
 use Rattle.repro_laws.proofs.FileLemmas.{only_file, file_at}
 use Rattle.repro_laws.proofs.AlikeLemmas.{each_on, each_two, map_same, value_kept, apart_below}
-use Rattle.repro_laws.proofs.SeenLemmas.{none_read, invocation_same}
+use Rattle.repro_laws.proofs.ParamLemmas.{params_same, params_stand}
+use Rattle.repro_laws.proofs.SeenLemmas.{invocation_same}
 use Rattle.repro_laws.proofs.TurnDue.{outside_below}
 use Rattle.repro_laws.proofs.MomentLemmas.{run_later}
 
@@ -89,6 +90,7 @@ not_in_turns s p ne own out =
 pub record IsBefore (a s : Stage) : Type 0 where
   pub stage : IsStage a
   pub deps : AllByRecursion (λ d. IsApart is_own d.path × (list_any (overlap d.path) (stage_outs s) ≡ false)) a.deps
+  pub params : AllByRecursion (λ w. IsApart is_own w.path × (list_any (overlap w.path) (stage_outs s) ≡ false)) a.params
   pub outs : AllByRecursion (λ o. IsApart is_own o.path × (list_any (overlap o.path) (stage_outs s) ≡ false)) a.made
   pub name : bytes_eq s.name a.name ≡ false
 
@@ -188,6 +190,7 @@ outs_mapped t u (o ∷ os) all =
 
 pub record Stay (a : Stage) (t u : Tree) : Type 0 where
   pub deps : AllByRecursion (λ d. value_at u d.path ≡ value_at t d.path) a.deps
+  pub params : AllByRecursion (λ w. value_at u w.path ≡ value_at t w.path) a.params
   pub outs : AllByRecursion (λ o. value_at u o.path ≡ value_at t o.path) a.made
 
 pub stay : (a s : Stage) (lock : Lock) (k n : Moment) → IsBefore a s → Beside s k n → HasEntry lock k.tree a → Stay a k.tree n.tree
@@ -202,6 +205,9 @@ stay a s lock k n before beside has =
       deps =
           each_two (λ d. IsApart is_own d.path × (list_any (overlap d.path) (stage_outs s) ≡ false)) (λ d. is_nothing (dep_value k.tree d) ≡ false) (λ d. value_at n.tree d.path ≡ value_at k.tree d.path) a.deps
           (λ d b t. value_stays s k n d.path beside b.0 b.1 (inside_there d.inside (value_at k.tree d.path) t)) before.deps deps;
+      params =
+          each_two (λ w. IsApart is_own w.path × (list_any (overlap w.path) (stage_outs s) ≡ false)) (λ w. is_nothing (value_at k.tree w.path) ≡ false) (λ w. value_at n.tree w.path ≡ value_at k.tree w.path) a.params
+          (λ w b t. value_stays s k n w.path beside b.0 b.1 t) before.params (params_stand a k.tree has.present.params has.present.read);
       outs =
           each_two (λ o. IsApart is_own o.path × (list_any (overlap o.path) (stage_outs s) ≡ false)) (λ o. is_nothing (value_at k.tree o.path) ≡ false) (λ o. value_at n.tree o.path ≡ value_at k.tree o.path) a.made
           (λ o b t. value_stays s k n o.path beside b.0 b.1 t) before.outs outs;
@@ -215,13 +221,12 @@ run_stays effect s lock later m k n d before beside ran kept r =
     let stays = stay a s lock k n before beside has in
     let made = r.made in
     let present = has.present in
-    let read : (ps : List ParamFile) → Rattle.repro_laws.specs.Stage.params_at a k.tree ≡ Ok ps → Rattle.repro_laws.specs.Stage.params_at a n.tree ≡ Ok ps =
-    λ ps e. none_read a n.tree is ∙ sym (none_read a k.tree is) ∙ e in
+    let read = params_same a k.tree n.tree stays.params in
     record {
       ran = run_later (s ∷ []) d.job m k n ran r.ran;
       made = record {
         params = made.params;
-        read = read made.params made.read;
+        read = read ∙ made.read;
         made = ap effect (invocation_same a made.params k.tree n.tree is stays.deps) ∙ made.made ∙ ap gives (sym (outs_mapped k.tree n.tree a.made stays.outs));
       };
       entry = record {
@@ -229,7 +234,7 @@ run_stays effect s lock later m k n d before beside ran kept r =
         there = kept ∙ has.there;
         present = record {
           params = present.params;
-          read = read present.params present.read;
+          read = read ∙ present.read;
           same = present.same ∙ sym (seen_same a present.params k.tree n.tree stays.deps stays.outs);
         };
       };

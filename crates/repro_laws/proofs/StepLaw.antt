@@ -22,7 +22,8 @@ use Rattle.repro_laws.proofs.RoadLemmas.{within, within_parent, is_blocked_road,
 use Rattle.repro_laws.proofs.FileLemmas.{file_at, some_value, no_folder_file}
 use Rattle.repro_laws.proofs.FolderLemmas.{Grows, grows_then, grows_some, folders_grow, folders_files, folders_roads, folders_made, clear_item}
 use Rattle.repro_laws.proofs.PutLemmas.{IsFree, ArePutFrom, values_put}
-use Rattle.repro_laws.proofs.ReadLemmas.{outside_outs, stands_inside, seen_outs, stood_deps, left_files, left_some, stay_value, same_given, same_params}
+use Rattle.repro_laws.proofs.ParamLemmas.{params_by_files}
+use Rattle.repro_laws.proofs.ReadLemmas.{outside_outs, stands_inside, seen_outs, stood_deps, left_files, left_some, stay_value, same_given}
 use Rattle.repro_laws.proofs.DepLaw.{Related, IsMarked, IsRead, grown_item, read_value}
 
 pub record IsNext (own : Path → Bool) (all done rest : List Path) (s : Stage) : Type 0 where
@@ -183,7 +184,7 @@ module _ (own : Path → Bool) (effect : Effect) (all done rest : List Path) (s 
 
   same_read : params_at s fold ≡ params_at s n.tree
   same_read =
-      same_params n.tree fold s.params (each_from (λ w. (list_any (overlap w.path) (stage_outs s ++ rest) ≡ false) × IsApart own w.path) (λ w. file_at fold w.path ≡ file_at n.tree w.path) s.params (λ w a. param_file w.path a.0 a.1) (reads_params own (stage_outs s ++ rest) s next.kept next.reads))
+      params_by_files s n.tree fold (each_from (λ w. (list_any (overlap w.path) (stage_outs s ++ rest) ≡ false) × IsApart own w.path) (λ w. file_at fold w.path ≡ file_at n.tree w.path) s.params (λ w a. param_file w.path a.0 a.1) (reads_params own (stage_outs s ++ rest) s next.kept next.reads))
 
   abbrev ps : List ParamFile
   ps = left.made.params

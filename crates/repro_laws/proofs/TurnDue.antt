@@ -2,7 +2,7 @@
 --     PutLaw         what is asked of putting values: it leaves them, and nothing else but folders on the stage's ways
 --     IsTurning      what is asked of the stage whose turn comes
 --     turn_due       the choice that is due is the one that was made, and what it leaves shows the same as what was left
-use Rattle.std.proofs.Common.{◌≡◌, ◌≢◌, ℕ, nat_lt, arith, Bool, true, false, cond, not, ◌||◌, ◌⊎◌, List, [], ◌∷◌, ◌++◌, length, drop, map, inl, inr, refl, sym, ap, subst, ◌∙◌, append_assoc, append-nil, Option, Some, None, is_some, IsSome, option_map}
+use Rattle.std.proofs.Common.{◌≡◌, ◌≢◌, ℕ, nat_lt, arith, Bool, true, false, cond, not, ◌||◌, ◌⊎◌, List, [], ◌∷◌, ◌++◌, length, drop, map, inl, inr, refl, sym, ap, subst, ◌∙◌, append_assoc, append-nil, Option, Some, None, is_some, IsSome, option_map, Ok}
 use Rattle.std.specs.List.{AllByRecursion, list_any}
 use Rattle.std.specs.FinMap.{get, retain_keys}
 use Rattle.std.proofs.lemmas.Bool.{or_left, or_right, false≢true, cases_Bool, ltb-false, or_from, or_parts, or_cases, and_from, false_from_ne_true, and_parts}
@@ -22,7 +22,7 @@ use Rattle.repro_laws.specs.Stage.{out_path, stage_outs, value_inside, dep_value
 use Rattle.repro_laws.specs.Anew.{without, with_folders, is_file, after_outcome, run_with, anew_step}
 use Rattle.repro_laws.specs.Entries.{path_named, in_front, all_named, entry_from, seen_dep, seen_out, entry_at}
 use Rattle.repro_laws.specs.Refusals.{see_fault, run_fault}
-use Rattle.repro_laws.specs.Due.{Standing, standing_of, with_entry, after_skip, after_run, run_next, standing_next, params_in, chosen_in, next_in, choice_fault}
+use Rattle.repro_laws.specs.Due.{Standing, standing_of, with_entry, after_skip, after_run, run_next, standing_next, params_or_none, params_in, chosen_in, next_in, choice_fault}
 use Rattle.repro_laws.specs.Turns.{State, is_way, IsLeftAt, OthersStay, Skips, Runs}
 use Rattle.repro_laws.specs.Headline.{IsOwn}
 use Rattle.repro_laws.specs.declared.stage.Out.{Out}
@@ -33,7 +33,8 @@ use Rattle.repro_laws.specs.declared.stage.Choice.TheVariants.{Skip, Run}
 use Rattle.repro_laws.proofs.FileLemmas.{only_file, file_at, Roads}
 use Rattle.repro_laws.proofs.AlikeLemmas.{is_inside, AreRoads, Alike, each_on, each_two, each_map, value_kept}
 use Rattle.repro_laws.proofs.GrowLemmas.{folder_or, only_folder_or, below_inside, IsFree, not_own_above, is_file_alike}
-use Rattle.repro_laws.proofs.SeenLemmas.{IsSeenIn, none_read, params_none, AreThere, deps_there, any_same, any_false, any_from, entry_alike, invocation_same, invocation_alike, run_fault_alike, missing_alike}
+use Rattle.repro_laws.proofs.ParamLemmas.{params_by_files}
+use Rattle.repro_laws.proofs.SeenLemmas.{IsSeenIn, AreThere, deps_there, any_same, any_false, any_from, params_alike, entry_alike, invocation_same, invocation_alike, run_fault_alike, missing_alike}
 use Rattle.repro_laws.proofs.DueLemmas.{IsLater, Related}
 
 -- ---- values that are put
@@ -140,6 +141,10 @@ outside_below (o ∷ os) p r h =
     let parts = or_parts (overlap p o) (list_any (overlap p) os) h in
     or_from (under o (p ++ r)) (is_in_any os (p ++ r)) (false_from_ne_true (under o (p ++ r)) (λ u. false≢true (sym parts.0 ∙ under-overlap p o (p ++ r) (under-append p r) u))) (outside_below os p r parts.1)
 
+file_without : (ps : List Path) (t : Tree) (p : Path) → list_any (overlap p) ps ≡ false → file_at (without t ps) p ≡ file_at t p
+file_without ps t p h =
+    ap only_file (get_without ps t p (subst (λ (x : Path). is_in_any ps x ≡ false) (append-nil p) (outside_below ps p [] h)))
+
 pub value_without : (ps : List Path) (t : Tree) (p : Path) → list_any (overlap p) ps ≡ false → value_at (without t ps) p ≡ value_at t p
 value_without ps t p h =
     value_kept t (without t ps) p (item_without ps t p (subst (λ (x : Path). is_in_any ps x ≡ false) (append-nil p) (outside_below ps p [] h))) (λ r. ap only_file (get_without ps t (p ++ r) (outside_below ps p r h)))
@@ -213,6 +218,7 @@ pub record IsTurning (own : Path → Bool) (done : List Path) (s : Stage) : Type
   pub after : IsSeenIn own (done ++ stage_outs s) s
   pub apart : are_apart (stage_outs s) ≡ true
   pub reads : AllByRecursion (λ d. list_any (overlap d.path) (stage_outs s) ≡ false) s.deps
+  pub params : AllByRecursion (λ w. list_any (overlap w.path) (stage_outs s) ≡ false) s.params
 
 root_in : (ps : List Path) → AllByRecursion (λ p. p ≢ []) ps → is_in_any ps [] ≡ true → ⊥
 root_in [] roots h = false≢true h
@@ -441,41 +447,45 @@ module _ (own : Path → Bool) (area : IsOwn own) (done : List Path) (s : Stage)
   reads_kept f =
       each_on (λ d. list_any (overlap d.path) (stage_outs s) ≡ false) (λ d. value_at (without f (stage_outs s)) d.path ≡ value_at f d.path) s.deps (λ d h. value_without (stage_outs s) f d.path h) turning.reads
 
+  params_kept : (f : Tree) → params_at s (without f (stage_outs s)) ≡ params_at s f
+  params_kept f =
+      params_by_files s f (without f (stage_outs s)) (each_on (λ w. list_any (overlap w.path) (stage_outs s) ≡ false) (λ w. file_at (without f (stage_outs s)) w.path ≡ file_at f w.path) s.params (λ w h. file_without (stage_outs s) f w.path h) turning.params)
+
   -- a step of running anew, on the tree without the outputs
-  pub anew_taken : (effect : Effect) (m n f : Tree) → Alike own done m f → AreThere m s → effect (invocation_of (job_with s []) m) ≡ gives (map (value_at n) (stage_outs s)) → (p : IsPut s (without f (stage_outs s)) n) → anew_step effect s (without f (stage_outs s)) ≡ Some p.tree
-  anew_taken effect m n f a there values p =
+  pub anew_taken : (effect : Effect) (ps : List ParamFile) (m n f : Tree) → Alike own done m f → AreThere m s → params_at s m ≡ Ok ps → effect (invocation_of (job_with s ps) m) ≡ gives (map (value_at n) (stage_outs s)) → (p : IsPut s (without f (stage_outs s)) n) → anew_step effect s (without f (stage_outs s)) ≡ Some p.tree
+  anew_taken effect ps m n f a there read values p =
       let from = without f (stage_outs s) in
       let is = turning.later.seen.stage in
       let missing : list_any (λ d. is_nothing (dep_value from d)) s.deps ≡ false =
       any_same (λ d. is_nothing (dep_value f d)) (λ d. is_nothing (dep_value from d)) s.deps (each_on (λ d. value_at from d.path ≡ value_at f d.path) (λ d. is_nothing (dep_value from d) ≡ is_nothing (dep_value f d)) s.deps (λ d h. ap (λ v. is_nothing (value_inside d.inside v)) h) (reads_kept f)) ∙ missing_alike own done s m f turning.later.seen a ∙ any_from (λ d. is_nothing (dep_value m d)) s.deps there in
-      let gave : effect (invocation_of (job_with s []) from) ≡ gives (map (value_at n) (stage_outs s)) =
-      ap effect (invocation_same s [] f from is (reads_kept f) ∙ invocation_alike own done s m f turning.later.seen a [] there) ∙ values in
+      let gave : effect (invocation_of (job_with s ps) from) ≡ gives (map (value_at n) (stage_outs s)) =
+      ap effect (invocation_same s ps f from is (reads_kept f) ∙ invocation_alike own done s m f turning.later.seen a ps there) ∙ values in
       ap (λ b. cond b None (run_with effect s from (params_at s from))) missing
-      ∙ ap (run_with effect s from) (none_read s from is)
+      ∙ ap (run_with effect s from) (params_kept f ∙ params_alike own done s m f turning.later.seen a ∙ read)
       ∙ ap (after_outcome (with_folders from [] s.dir) (stage_outs s)) gave
       ∙ p.step
 
-  pub run_due : (law : PutLaw) (flags : Flags) (effect : Effect) (m n : State) (st : Standing) → IsTree m.tree → IsTree n.tree → see_fault s m.tree ≡ None → Related own done (standing_of m.tree m.lock) st → Roads st.tree → chosen_in flags s st ≡ (Run, None) → Runs own effect s [] m n → IsNext flags effect n st
-  run_due law flags effect m n st tm tn see related kept chosen run =
+  pub run_due : (law : PutLaw) (flags : Flags) (effect : Effect) (ps : List ParamFile) (m n : State) (st : Standing) → IsTree m.tree → IsTree n.tree → params_at s m.tree ≡ Ok ps → see_fault s m.tree ≡ None → Related own done (standing_of m.tree m.lock) st → Roads st.tree → chosen_in flags s st ≡ (Run, None) → Runs own effect s ps m n → IsNext flags effect n st
+  run_due law flags effect ps m n st tm tn read see related kept chosen run =
       let is = turning.later.seen.stage in
       let a = related.trees in
       let there = deps_there s m.tree is see in
-      let made = made_there s [] n.tree run.entry run.present in
+      let made = made_there s ps n.tree run.entry run.present in
       let put = put_at m.tree n.tree st.tree tm tn a run.others made run.dir law kept in
       let alike = put_alike m.tree n.tree st.tree tm tn a run.others made run.dir put in
       let from = without st.tree (stage_outs s) in
-      let quiet : run_fault effect s [] st.tree ≡ None =
-      run_fault_alike own done s m.tree st.tree turning.later.seen a area effect [] there ∙ run.fault in
-      let step : run_next effect s [] st ≡ Some (after_run s [] st put.tree) =
-      ap (λ o. cond (is_some o) None (option_map (after_run s [] st) (anew_step effect s from))) quiet ∙ ap (option_map (after_run s [] st)) (anew_taken effect m.tree n.tree st.tree a there run.values put) in
-      let none = params_none s st is in
+      let quiet : run_fault effect s ps st.tree ≡ None =
+      run_fault_alike own done s m.tree st.tree turning.later.seen a area effect ps there ∙ run.fault in
+      let step : run_next effect s ps st ≡ Some (after_run s ps st put.tree) =
+      ap (λ o. cond (is_some o) None (option_map (after_run s ps st) (anew_step effect s from))) quiet ∙ ap (option_map (after_run s ps st)) (anew_taken effect ps m.tree n.tree st.tree a there read run.values put) in
+      let own_ps : params_in s st ≡ ps = ap params_or_none (params_alike own done s m.tree st.tree turning.later.seen a ∙ read) in
       record {
-        next = after_run s [] st put.tree;
-        step = ap (λ c. standing_next effect s (params_in s st) c st) chosen ∙ ap (λ ps. run_next effect s ps st) none ∙ step;
-        fault = ap (λ (c : Choice × Option Entry). choice_fault effect s (params_in s st) c.0 st.tree) chosen ∙ ap (λ ps. run_fault effect s ps st.tree) none ∙ quiet;
+        next = after_run s ps st put.tree;
+        step = ap (λ c. standing_next effect s (params_in s st) c st) chosen ∙ ap (λ x. run_next effect s x st) own_ps ∙ step;
+        fault = ap (λ (c : Choice × Option Entry). choice_fault effect s (params_in s st) c.0 st.tree) chosen ∙ ap (λ x. run_fault effect s x st.tree) own_ps ∙ quiet;
         related = record {
           trees = alike;
-          locks = ap (with_entry st.lock s.name) (entry_alike own (done ++ stage_outs s) s n.tree put.tree turning.after alike [] ∙ run.present) ∙ ap (λ l. set l s.name run.entry) related.locks ∙ sym run.lock;
+          locks = ap (with_entry st.lock s.name) (entry_alike own (done ++ stage_outs s) s n.tree put.tree turning.after alike ps ∙ run.present) ∙ ap (λ l. set l s.name run.entry) related.locks ∙ sym run.lock;
         };
         roads = put.kept;
       }

@@ -22,7 +22,7 @@ use Rattle.yaml_print.specs.Print.{print_text}
 use Rattle.lock_files.specs.declared.entry.Entry.{Entry}
 use Rattle.lock_files.specs.Book.{Lock, entry_of}
 use Rattle.lock_files.specs.Nodes.{lock_node}
-use Rattle.repro_laws.specs.Stage.{dep_path, tracked_path, out_path, read_paths, stage_outs, IsStage}
+use Rattle.repro_laws.specs.Stage.{out_path, read_paths, stage_outs, IsStage}
 use Rattle.repro_laws.specs.Lock.{is_among}
 use Rattle.repro_laws.specs.Due.{Due}
 use Rattle.repro_laws.specs.Turns.{State, state, Leaves, Turn, Turns, stages_of, AreStored}
@@ -33,6 +33,7 @@ use Rattle.repro_laws.specs.declared.stage.Flags.{Flags}
 use Rattle.repro_laws.specs.declared.stage.Choice.{Choice}
 use Rattle.repro_laws.specs.declared.stage.Choice.TheVariants.{Skip, Restore, Run}
 use Rattle.repro_laws.proofs.AlikeLemmas.{each_on, each_two, each_front, each_mapped}
+use Rattle.repro_laws.proofs.ParamLemmas.{reads_each}
 use Rattle.repro_laws.proofs.SeenLemmas.{any_false, any_from}
 use Rattle.repro_laws.proofs.WaitLemmas.{not_false}
 use Rattle.repro_laws.proofs.LockEntries.{entry_kept}
@@ -235,15 +236,15 @@ before_one : (x : Stage) (xs : List Stage) (s : Stage) (ys : List Stage) → IsS
 before_one x xs s ys is kept order apart name =
     let rest = flat_map stage_outs (xs ++ s ∷ ys) in
     let free = not_false _ (and_parts (not (list_any (λ p. list_any (overlap p) (stage_outs x ++ rest)) (read_paths x))) (is_ordered (xs ++ s ∷ ys)) order).0 in
-    let reads = each_mapped dep_path (λ p. list_any (overlap p) (stage_outs x ++ rest) ≡ false) x.deps (each_front (λ p. list_any (overlap p) (stage_outs x ++ rest) ≡ false) (map dep_path x.deps) (map tracked_path x.params) (any_false (λ p. list_any (overlap p) (stage_outs x ++ rest)) (read_paths x) free)).0 in
-    let deps_kept = each_mapped dep_path (IsApart is_own) x.deps (each_front (IsApart is_own) (map dep_path x.deps) (map tracked_path x.params) kept.reads).0 in
+    let reads = reads_each (λ p. IsApart is_own p × (list_any (overlap p) (stage_outs s) ≡ false)) x
+    (each_two (IsApart is_own) (λ p. list_any (overlap p) (stage_outs x ++ rest) ≡ false) (λ p. IsApart is_own p × (list_any (overlap p) (stage_outs s) ≡ false)) (read_paths x)
+    (λ p k h. (k, middle_any (overlap p) xs s ys (or_parts (list_any (overlap p) (stage_outs x)) (list_any (overlap p) rest) (sym (list_any-append (overlap p) (stage_outs x) rest) ∙ h)).1)) kept.reads (any_false (λ p. list_any (overlap p) (stage_outs x ++ rest)) (read_paths x) free)) in
     let outs_kept = each_mapped out_path (IsApart is_own) x.made kept.outs in
     let outs = each_mapped out_path (λ p. list_any (overlap p) rest ≡ false) x.made (cross_front (stage_outs x) rest apart) in
     record {
       stage = is;
-      deps =
-          each_two (λ d. IsApart is_own d.path) (λ d. list_any (overlap d.path) (stage_outs x ++ rest) ≡ false) (λ d. IsApart is_own d.path × (list_any (overlap d.path) (stage_outs s) ≡ false)) x.deps
-          (λ d k h. (k, middle_any (overlap d.path) xs s ys (or_parts (list_any (overlap d.path) (stage_outs x)) (list_any (overlap d.path) rest) (sym (list_any-append (overlap d.path) (stage_outs x) rest) ∙ h)).1)) deps_kept reads;
+      deps = reads.0;
+      params = reads.1;
       outs =
           each_two (λ o. IsApart is_own o.path) (λ o. list_any (overlap o.path) rest ≡ false) (λ o. IsApart is_own o.path × (list_any (overlap o.path) (stage_outs s) ≡ false)) x.made
           (λ o k h. (k, middle_any (overlap o.path) xs s ys h)) outs_kept outs;

@@ -1,17 +1,18 @@
 -- Stages of a plan can have their turns, one after another.
 --     outs_later         what a stage of a plan may ask of the outputs before it
 --     waiting_planned    a front of a plan, and the stages after it
-use Rattle.std.proofs.Common.{◌≡◌, ◌≢◌, nat_lt, Bool, true, false, not, List, [], ◌∷◌, ◌++◌, length, map, refl, sym, ap, subst, ◌∙◌, arith, append_assoc, ◌==◌}
+use Rattle.std.proofs.Common.{◌≡◌, ◌≢◌, nat_lt, Bool, true, false, not, List, [], ◌∷◌, ◌++◌, length, refl, sym, ap, subst, ◌∙◌, arith, append_assoc, ◌==◌}
 use Rattle.std.specs.List.{AllByRecursion, list_any, flat_map}
 use Rattle.std.proofs.lemmas.Bool.{false≢true, or_parts, or_from, or_left, and_from, and_parts, false_from_ne_true, ltb-true}
 use Rattle.std.proofs.lemmas.List.Folds.{list_any-append}
 use Rattle.dvc_base.specs.Path.{Path, under, overlap, is_within}
 use Rattle.world_api.specs.Calls.{is_apart, are_apart}
-use Rattle.repro_laws.specs.Stage.{dep_path, tracked_path, out_path, read_paths, stage_outs, IsStage}
+use Rattle.repro_laws.specs.Stage.{out_path, read_paths, stage_outs, IsStage}
 use Rattle.repro_laws.specs.Headline.{IsApart, IsKept, is_ordered, IsPlanned}
 use Rattle.repro_laws.specs.declared.stage.Stage.{Stage}
 use Rattle.repro_laws.proofs.AlikeLemmas.{is_inside, each_on, each_two, each_front, each_mapped}
 use Rattle.repro_laws.proofs.GrowLemmas.{IsFree}
+use Rattle.repro_laws.proofs.ParamLemmas.{reads_each}
 use Rattle.repro_laws.proofs.SeenLemmas.{IsSeenIn, any_false, any_from}
 use Rattle.repro_laws.proofs.DueLemmas.{IsLater}
 use Rattle.repro_laws.proofs.TurnDue.{IsTurning, outside_below}
@@ -139,11 +140,11 @@ module _ (own : Path → Bool) where
       }
 
   -- what overlaps none of the outputs that follow
-  reads_free : (s : Stage) (rest : List Path) → list_any (λ p. list_any (overlap p) (stage_outs s ++ rest)) (read_paths s) ≡ false → AllByRecursion (λ d. list_any (overlap d.path) (stage_outs s) ≡ false) s.deps
+  reads_free : (s : Stage) (rest : List Path) → list_any (λ p. list_any (overlap p) (stage_outs s ++ rest)) (read_paths s) ≡ false → AllByRecursion (λ p. list_any (overlap p) (stage_outs s) ≡ false) (read_paths s)
   reads_free s rest h =
-      let all = any_false (λ p. list_any (overlap p) (stage_outs s ++ rest)) (read_paths s) h in
-      let deps = each_mapped dep_path (λ p. list_any (overlap p) (stage_outs s ++ rest) ≡ false) s.deps (each_front (λ p. list_any (overlap p) (stage_outs s ++ rest) ≡ false) (map dep_path s.deps) (map tracked_path s.params) all).0 in
-      each_on (λ d. list_any (overlap d.path) (stage_outs s ++ rest) ≡ false) (λ d. list_any (overlap d.path) (stage_outs s) ≡ false) s.deps (λ d e. (or_parts (list_any (overlap d.path) (stage_outs s)) (list_any (overlap d.path) rest) (sym (list_any-append (overlap d.path) (stage_outs s) rest) ∙ e)).0) deps
+      each_on (λ p. list_any (overlap p) (stage_outs s ++ rest) ≡ false) (λ p. list_any (overlap p) (stage_outs s) ≡ false) (read_paths s)
+      (λ p e. (or_parts (list_any (overlap p) (stage_outs s)) (list_any (overlap p) rest) (sym (list_any-append (overlap p) (stage_outs s) rest) ∙ e)).0)
+      (any_false (λ p. list_any (overlap p) (stage_outs s ++ rest)) (read_paths s) h)
 
   turning_of : (all done : List Path) (s : Stage) (rest : List Path) → IsStage s → IsKept own s → AllByRecursion (λ d. d.inside ≡ is_inside all d.path) s.deps → IsPart done all → IsPart (done ++ stage_outs s) all → are_apart (done ++ (stage_outs s ++ rest)) ≡ true → list_any (λ p. list_any (overlap p) (stage_outs s ++ rest)) (read_paths s) ≡ false → IsTurning own done s
   turning_of all done s rest is kept marked part more apart order =
@@ -151,11 +152,13 @@ module _ (own : Path → Bool) where
       let clear = (each_front (IsClear done) outs rest (each_clear done (outs ++ rest) apart)).0 in
       let own_apart : are_apart outs ≡ true = apart_front outs rest (apart_back done (outs ++ rest) apart) in
       let later = outs_later all done s is kept marked part clear in
+      let reads = reads_each (λ p. list_any (overlap p) outs ≡ false) s (reads_free s rest order) in
       record {
         later = later;
         after = seen_in all (done ++ outs) s is kept marked more (each_two (IsClear done) (λ p. is_inside outs p ≡ false) (λ p. is_inside (done ++ outs) p ≡ false) outs (λ p c o. inside_joined done outs p (none_inside done p c.none) o) clear (each_outside outs own_apart));
         apart = own_apart;
-        reads = reads_free s rest order;
+        reads = reads.0;
+        params = reads.1;
       }
 
   -- ---- plans

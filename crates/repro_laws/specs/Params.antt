@@ -1,6 +1,8 @@
 -- The parameters that a stage tracks.
---     tracked_at t ws       each file with its tracked keys and their values, or the first refusal
-use Rattle.std.specs.Prelude.{ℕ, List, [], ◌∷◌, Option, Some, None, Result, Ok, Err, if◌then◌else◌}
+--     tracked_at t ws       each file with its tracked keys and their values, or the first refusal, as the files are written
+--     files_in_order got    the files in the order of their texts
+--     AreParams ps          parameters as an entry has them
+use Rattle.std.specs.Prelude.{ℕ, List, [], ◌∷◌, map, Option, Some, None, Result, Ok, Err, IsTrue, if◌then◌else◌}
 use Rattle.dvc_base.specs.Path.{Path}
 use Rattle.dvc_base.specs.Limits.{limit_of}
 use Rattle.dvc_base.specs.declared.limits.What.TheVariants as w
@@ -11,7 +13,9 @@ use Rattle.dvc_base.specs.declared.node.Node.{Node}
 use Rattle.dvc_base.specs.declared.node.Pair.{Pair, roll-Pair}
 use Rattle.yaml_nodes.specs.Part.{key_of}
 use Rattle.lock_files.specs.Mapping.{pairs_in}
-use Rattle.lock_files.specs.Order.{in_order}
+use Rattle.yaml_print.specs.Sound.{Each}
+use Rattle.lock_files.specs.Order.{in_order, is_rising}
+use Rattle.lock_files.specs.Form.{IsKeyed, file_at}
 use Rattle.world_api.specs.Tree.{Tree, item_at}
 use Rattle.params.specs.Lookup.{lookup}
 use Rattle.params.specs.Read.{params_at}
@@ -68,3 +72,12 @@ file_read w (Err why) = Err (params_answer w.path why)
 abbrev pub tracked_at : Tree → List Tracked → Result (List ParamFile) Fault
 tracked_at t [] = Ok []
 tracked_at t (w ∷ ws) = with_first (file_read w (params_at (item_at t w.path))) (tracked_at t ws)
+
+abbrev pub files_in_order : Result (List ParamFile) Fault → Result (List ParamFile) Fault
+files_in_order (Ok ps) = Ok (in_order file_at ps)
+files_in_order (Err fault) = Err fault
+
+-- files and keys in order, each value one that can be printed there
+pub record AreParams (ps : List ParamFile) : Type 0 where
+  pub files : IsTrue (is_rising (map file_at ps))
+  pub keys : Each (λ f. IsKeyed f.keys) ps

@@ -2,7 +2,8 @@
 --     see_fault s t             the refusal by what stands at its dependencies, parameters and outputs
 --     way_fault s t             a file in the way of a folder that its run needs
 --     outcome_fault s outcome   the refusal by what the commands gave
---     run_fault effect s ps t   the refusal of a run
+--     job_fault effect s job t  the refusal of a run with this job
+--     run_fault effect s ps t   the same with these parameters
 -- Each is the first one in the order in which the paths are written.
 use Rattle.std.specs.Prelude.{ℕ, List, [], ◌∷◌, ◌++◌, bytes_eq, Option, Some, None, option_map, if◌then◌else◌}
 use Rattle.dvc_base.specs.Path.{Path}
@@ -13,6 +14,7 @@ use Rattle.dvc_base.specs.declared.fault.Fault.TheVariants as f
 use Rattle.world_api.specs.Tree.{Tree, Value, nothing, item_at, value_at}
 use Rattle.world_api.specs.Effect.{Effect, Outcome, fails, gives, invocation_of}
 use Rattle.world_api.specs.Calls.{parent}
+use Rattle.world_api.specs.declared.job.Job.{Job}
 use Rattle.repro_laws.specs.Limits.{limit_fault}
 use Rattle.repro_laws.specs.Anew.{is_file}
 use Rattle.repro_laws.specs.Stage.{dep_value, params_at, job_with}
@@ -79,6 +81,8 @@ abbrev pub outcome_fault : Stage → Outcome → Option Fault
 outcome_fault s (fails code) = Some (f.CommandFailed s.name code)
 outcome_fault s (gives vs) = first_fault (missing_fault s vs) (large_fault s vs)
 
+abbrev pub job_fault : Effect → Stage → Job → Tree → Option Fault
+job_fault effect s job t = first_fault (way_fault s t) (outcome_fault s (effect (invocation_of job t)))
+
 abbrev pub run_fault : Effect → Stage → List ParamFile → Tree → Option Fault
-run_fault effect s ps t =
-    first_fault (way_fault s t) (outcome_fault s (effect (invocation_of (job_with s ps) t)))
+run_fault effect s ps t = job_fault effect s (job_with s ps) t

@@ -15,8 +15,9 @@ use Rattle.world_api.specs.Tree.{Tree, Value, nothing, members, value_at}
 use Rattle.world_api.specs.Calls.{are_apart}
 use Rattle.world_api.specs.declared.job.Job.{Job}
 use Rattle.lock_files.specs.Order.{in_order, is_rising}
+use Rattle.lock_files.specs.Form.{are_distinct}
 use Rattle.change_check.specs.Same.{canonical_files}
-use Rattle.repro_laws.specs.Params.{tracked_at}
+use Rattle.repro_laws.specs.Params.{tracked_at, files_in_order}
 use Rattle.repro_laws.specs.declared.stage.Dep.{Dep}
 use Rattle.repro_laws.specs.declared.stage.Out.{Out}
 use Rattle.repro_laws.specs.declared.stage.Tracked.{Tracked}
@@ -61,7 +62,10 @@ is_nothing _ = false
 -- ---- parameters and the job
 
 abbrev pub params_at : Stage → Tree → Result (List ParamFile) Fault
-params_at s t = tracked_at t s.params
+params_at s t = files_in_order (tracked_at t s.params)
+
+abbrev pub tracked_text : Tracked → List ℕ
+tracked_text w = w.text
 
 abbrev pub dep_text : Dep → List ℕ
 dep_text d = d.text
@@ -95,5 +99,6 @@ pub record IsStage (s : Stage) : Type 0 where
   pub dep_names : AllByRecursion (λ d. Names s.dir d.text d.path) s.deps
   pub out_names : AllByRecursion (λ o. Names s.dir o.text o.path) s.made
   pub apart : are_apart (stage_outs s) ≡ true
-  -- no parameter is tracked yet
-  pub no_params : s.params ≡ []
+  -- each file of parameters stands once, and each of its keys
+  pub param_texts : IsTrue (are_distinct [] (map tracked_text s.params))
+  pub param_keys : AllByRecursion (λ w. IsTrue (are_distinct [] w.keys)) s.params
