@@ -5,38 +5,38 @@
 --     IsEnd, end_headline            all turns have ended
 use Rattle.std.proofs.Common.{◌≡◌, ℕ, Bool, false, List, [], ◌∷◌, ◌++◌, map, inl, inr, refl, sym, ap, subst, ◌∙◌, append_assoc, append-nil, Option, Some, None, IsTrue}
 use Rattle.std.specs.Prelude.{bytes_eq}
-use Rattle.std.specs.List.{AllByRecursion}
+use Rattle.std.specs.List.{AllByRecursion, list_any}
 use Rattle.std.proofs.lemmas.Bool.{or_cases, or_left, or_right}
-use Rattle.dvc_base.specs.Path.{Path, under}
+use Rattle.dvc_base.specs.Path.{Path, under, overlap}
 use Rattle.dvc_base.specs.declared.fault.Fault.{Fault}
 use Rattle.dvc_base.specs.declared.fault.Fault.TheVariants.{OutFault}
 use Rattle.dvc_base.proofs.PathLemmas.{under-trans}
-use Rattle.world_api.specs.Tree.{Tree, IsTree, value_at}
+use Rattle.world_api.specs.Tree.{Value, nothing, content, members, IsTree, value_at}
 use Rattle.world_api.specs.Effect.{Effect}
 use Rattle.world_api.specs.History.{Book, Moment, History, Passes}
 use Rattle.world_api.specs.Outside.{tree_of, jobs_of}
 use Rattle.world_api.specs.Layout.{dvc_path, lock_path}
 use Rattle.world_api.proofs.HistoryLemmas.{passes_weaker}
 use Rattle.lock_files.specs.Book.{Lock, entry_of}
-use Rattle.repro_laws.specs.Stage.{dep_path, out_path, tracked_path, read_paths, value_inside, dep_value, IsStage}
+use Rattle.repro_laws.specs.Stage.{dep_path, out_path, tracked_path, stage_outs, value_inside, dep_value, is_nothing}
 use Rattle.repro_laws.specs.Book.{IsCovered}
 use Rattle.repro_laws.specs.Lock.{HasEntry}
 use Rattle.repro_laws.specs.Due.{Due, standing_of, report, jobs, due, turn_fault, fault_of}
 use Rattle.repro_laws.specs.Turns.{State, state, stages_of}
-use Rattle.repro_laws.specs.Headline.{IsOwn, IsPlanned, Covers, IsMet, LeavesAnew, IsFront}
+use Rattle.repro_laws.specs.Headline.{IsOwn, IsApart, IsPlanned, Covers, IsMet, LeavesAnew, IsFront}
 use Rattle.repro_laws.specs.Moments.{is_own, InTurns}
 use Rattle.repro_laws.specs.Sound.{lock_of, IsMetSince, AreReliable, IsAnswerAt, GainsAt, AreHalted}
-use Rattle.repro_laws.specs.declared.stage.Tracked.{Tracked}
 use Rattle.repro_laws.specs.declared.stage.Stage.{Stage}
 use Rattle.repro_laws.specs.declared.stage.Flags.{Flags}
 use Rattle.repro_laws.specs.declared.stage.Choice.{Choice}
-use Rattle.repro_laws.proofs.AlikeLemmas.{each_on, each_two, each_front, each_mapped, each_map}
-use Rattle.repro_laws.proofs.SeenLemmas.{none_read}
+use Rattle.repro_laws.proofs.ParamLemmas.{params_same}
+use Rattle.repro_laws.proofs.AlikeLemmas.{each_on, each_front, each_map}
+use Rattle.repro_laws.proofs.ListLemmas.{each_all}
 use Rattle.repro_laws.proofs.StayLaw.{entry_moves}
 use Rattle.repro_laws.proofs.TurnLaw.{turn_keeps_entry}
 use Rattle.repro_laws.proofs.LoneLemmas.{lone_fault}
 use Rattle.repro_laws.proofs.MomentLemmas.{turns_wider}
-use Rattle.repro_laws.proofs.StayLemmas.{IsBefore, Beside, beside_of, Stay, stay}
+use Rattle.repro_laws.proofs.StayLemmas.{IsBefore, Beside, beside_of, value_stays, Stay, stay}
 use Rattle.repro_laws.proofs.AllLaws.{headline, front}
 use Rattle.repro_core.specs.Turning.{JobsGain, Halts, Turned}
 use Rattle.repro_core.proofs.FirstLemmas.{HasMore, first_due, last_due, first_refused}
@@ -86,30 +86,36 @@ entry_then a s lock k n before stays h has =
     let deps : AllByRecursion (λ d. dep_value u d ≡ dep_value t d) a.deps =
     each_on (λ d. value_at u d.path ≡ value_at t d.path) (λ d. dep_value u d ≡ dep_value t d) a.deps (λ d e. ap (value_inside d.inside) e) stays.deps in
     let outs = each_map out_path (λ p. value_at u p ≡ value_at t p) a.made stays.outs in
-    let moved = entry_moves lock a t u has deps outs (none_read a u before.stage ∙ sym (none_read a t before.stage)) in
+    let moved = entry_moves lock a t u has deps outs (params_same a t u stays.params) in
     record { entry = moved.entry; there = h.same a.name before.name ∙ moved.there; present = moved.present }
 
-covered_back : {A : Type 0} (book : Book) (t u : Tree) (path : A → Path) (xs : List A) → AllByRecursion (λ x. value_at u (path x) ≡ value_at t (path x)) xs → AllByRecursion (λ p. IsCovered book (value_at u p)) (map path xs) → AllByRecursion (λ p. IsCovered book (value_at t p)) (map path xs)
-covered_back book t u path xs stays covers =
-    each_map path (λ p. IsCovered book (value_at t p)) xs (each_two (λ x. value_at u (path x) ≡ value_at t (path x)) (λ x. IsCovered book (value_at u (path x))) (λ x. IsCovered book (value_at t (path x))) xs
-    (λ x e c. subst (IsCovered book) e c) stays (each_mapped path (λ p. IsCovered book (value_at u p)) xs covers))
+-- nothing is covered, and any other value has stayed
+covered_if : (book : Book) (v w : Value) → (is_nothing v ≡ false → w ≡ v) → IsCovered book w → IsCovered book v
+covered_if book nothing w stays covered = tt
+covered_if book (content bytes) w stays covered = subst (IsCovered book) (stays refl) covered
+covered_if book (members m) w stays covered = subst (IsCovered book) (stays refl) covered
 
-covers_before : (book : Book) (a : Stage) (t u : Tree) → IsStage a → Stay a t u → Covers book u a → Covers book t a
-covers_before book a t u is stays covers =
-    let P : Path → Type 0 = λ p. IsCovered book (value_at t p) in
-    let reads = (each_front (λ p. IsCovered book (value_at u p)) (map dep_path a.deps) (map tracked_path a.params) covers.reads).0 in
-    let deps = covered_back book t u dep_path a.deps stays.deps reads in
-    let none : read_paths a ≡ map dep_path a.deps =
-    ap (λ (ws : List Tracked). map dep_path a.deps ++ map tracked_path ws) is.no_params ∙ append-nil (map dep_path a.deps) in
+covered_back : {A : Type 0} (book : Book) (s : Stage) (k n : Moment) (path : A → Path) (xs : List A) → Beside s k n → AllByRecursion (λ x. IsApart is_own (path x) × (list_any (overlap (path x)) (stage_outs s) ≡ false)) xs → AllByRecursion (λ p. IsCovered book (value_at n.tree p)) (map path xs) → AllByRecursion (λ p. IsCovered book (value_at k.tree p)) (map path xs)
+covered_back book s k n path [] beside apart covers = tt
+covered_back book s k n path (x ∷ xs) beside apart covers = (
+  covered_if book (value_at k.tree (path x)) (value_at n.tree (path x)) (λ there. value_stays s k n (path x) beside apart.0.0 apart.0.1 there) covers.0,
+  covered_back book s k n path xs beside apart.1 covers.1,
+)
+
+covers_before : (book : Book) (a s : Stage) (k n : Moment) → IsBefore a s → Beside s k n → Covers book n.tree a → Covers book k.tree a
+covers_before book a s k n before beside covers =
+    let reads = each_front (λ p. IsCovered book (value_at n.tree p)) (map dep_path a.deps) (map tracked_path a.params) covers.reads in
+    let deps = covered_back book s k n dep_path a.deps beside before.deps reads.0 in
+    let params = covered_back book s k n tracked_path a.params beside before.params reads.1 in
     record {
-      reads = subst (λ (ps : List Path). AllByRecursion P ps) (sym none) deps;
-      outs = covered_back book t u out_path a.made stays.outs covers.outs;
+      reads = each_all (λ p. IsCovered book (value_at k.tree p)) (map dep_path a.deps) (map tracked_path a.params) deps params;
+      outs = covered_back book s k n out_path a.made beside before.outs covers.outs;
     }
 
 met_before : (book : Book) (done : List Stage) (s : Stage) (rest : List Stage) (lock : Lock) (m k n : Moment) → AllByRecursion (λ a. IsBefore a s) done → Beside s k n → HasOthers s lock n → IsMetSince book (done ++ s ∷ rest) m n → IsMet book done (state k.tree lock)
 met_before book [] s rest lock m k n before beside others met = tt
 met_before book (a ∷ done) s rest lock m k n before beside others met = (
-  λ has. let stays = stay a s lock k n before.0 beside has in covers_before book a k.tree n.tree (IsBefore.stage before.0) stays (met.0 (inr (record { lock = others.found; read = others.read; has = entry_then a s lock k n before.0 stays others has }))),
+  λ has. let stays = stay a s lock k n before.0 beside has in covers_before book a s k n before.0 beside (met.0 (inr (record { lock = others.found; read = others.read; has = entry_then a s lock k n before.0 stays others has }))),
   met_before book done s rest lock m k n before.1 beside others met.1,
 )
 

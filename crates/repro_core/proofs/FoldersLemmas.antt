@@ -22,16 +22,17 @@ use Rattle.world_api.specs.Outside.{PassesFrom}
 use Rattle.world_api.specs.Calls.{parent, are_apart, HasFolders, IsCleared, InClear}
 use Rattle.world_api.specs.Layout.{dvc_path, tmp_path, lock_path}
 use Rattle.world_api.specs.Writes.{is_at, in_scratch, InScratch, IsMade, IsNoFileAt, HasRoad, IsFolderAt, InMakeFolder}
+use Rattle.world_api.specs.declared.job.Job.{Job}
 use Rattle.world_api.proofs.HistoryLemmas.{keeps_then, keeps_in, passes_weaker}
 use Rattle.world_api.proofs.WriteLemmas.{made_then_made, made_folder}
 use Rattle.world_api.proofs.ValueLemmas.{is_in_any-push}
 use Rattle.world_api.proofs.LaneLemmas.{tmp_in_dvc}
 use Rattle.repro_laws.specs.Anew.{is_file}
-use Rattle.repro_laws.specs.Stage.{dep_path, tracked_path, out_path, out_text, read_paths, stage_outs, dep_value, is_nothing, job_with, IsStage}
+use Rattle.repro_laws.specs.Stage.{dep_path, tracked_path, out_path, out_text, read_paths, stage_outs, dep_value, is_nothing, IsStage}
 use Rattle.repro_laws.specs.Refusals.{file_on, road_fault, see_fault, way_fault}
 use Rattle.repro_laws.specs.Turns.{is_way}
 use Rattle.repro_laws.specs.Headline.{IsApart, is_ordered, IsKept}
-use Rattle.repro_laws.specs.Moments.{is_own}
+use Rattle.repro_laws.specs.Moments.{is_own, IsJobOf}
 use Rattle.repro_laws.specs.declared.stage.Dep.{Dep}
 use Rattle.repro_laws.specs.declared.stage.Out.{Out}
 use Rattle.repro_laws.specs.declared.stage.Stage.{Stage}
@@ -205,30 +206,31 @@ own_deps s order =
     let reads = each_mapped dep_path (λ p. list_any (overlap p) outs ≡ false) s.deps (each_front (λ p. list_any (overlap p) outs ≡ false) (map dep_path s.deps) (map tracked_path s.params) (any_false (λ p. list_any (overlap p) outs) (read_paths s) free)).0 in
     each_from (λ (d : Dep). list_any (overlap d.path) outs ≡ false) (λ (d : Dep). list_any (overlap d.path) (stage_outs s) ≡ false) s.deps (λ d h. (or_parts (list_any (overlap d.path) (stage_outs s)) false (sym (list_any-append (overlap d.path) (stage_outs s) []) ∙ h)).0) reads
 
-pub given_kept : (s : Stage) (m n : Moment) → IsStage s → IsKept is_own s → is_ordered (s ∷ []) ≡ true → see_fault s m.tree ≡ None → InWork s [] m n → invocation_of (job_with s []) n.tree ≡ invocation_of (job_with s []) m.tree
-given_kept s m n stage kept order none h =
+pub given_kept : (s : Stage) (job : Job) (m n : Moment) → IsStage s → IsKept is_own s → is_ordered (s ∷ []) ≡ true → IsJobOf s job → see_fault s m.tree ≡ None → InWork s [] m n → invocation_of job n.tree ≡ invocation_of job m.tree
+given_kept s job m n stage kept order its none h =
     let beside = beside_work s m n h in
     let apart = each_mapped dep_path (IsApart is_own) s.deps (each_front (IsApart is_own) (map dep_path s.deps) (map tracked_path s.params) kept.reads).0 in
     let free = each_both (λ (d : Dep). IsApart is_own d.path) (λ (d : Dep). list_any (overlap d.path) (stage_outs s) ≡ false) (λ (d : Dep). IsApart is_own d.path × (list_any (overlap d.path) (stage_outs s) ≡ false)) s.deps (λ d a b. (a, b)) apart (own_deps s order) in
-    same_given s [] m.tree n.tree stage (each_both (λ (d : Dep). IsApart is_own d.path × (list_any (overlap d.path) (stage_outs s) ≡ false)) (λ (d : Dep). is_nothing (dep_value m.tree d) ≡ false) (λ (d : Dep). value_at n.tree d.path ≡ value_at m.tree d.path) s.deps (λ d b t. value_stays s m n d.path beside b.0 b.1 (stands_inside d.inside (value_at m.tree d.path) t)) free (stood_deps s m.tree stage none))
+    let same = same_given s its.0 m.tree n.tree stage (each_both (λ (d : Dep). IsApart is_own d.path × (list_any (overlap d.path) (stage_outs s) ≡ false)) (λ (d : Dep). is_nothing (dep_value m.tree d) ≡ false) (λ (d : Dep). value_at n.tree d.path ≡ value_at m.tree d.path) s.deps (λ d b t. value_stays s m n d.path beside b.0 b.1 (stands_inside d.inside (value_at m.tree d.path) t)) free (stood_deps s m.tree stage none)) in
+    subst (λ (j : Job). invocation_of j n.tree ≡ invocation_of j m.tree) (sym its.1) same
 
 -- ---- the job's folders
 
-has_folders : (s : Stage) (t : Tree) → IsStage s → AreFolders t (s.dir ∷ map above_out s.outs) → HasFolders (job_with s []) t
-has_folders s t stage folders =
+has_folders : (s : Stage) (job : Job) (t : Tree) → IsStage s → IsJobOf s job → AreFolders t (s.dir ∷ map above_out s.outs) → HasFolders job t
+has_folders s job t stage its folders =
     let written = each_mapped above_out (IsFolderAt t) s.outs folders.1 in
     let ordered : AllByRecursion (λ o. item_at t (parent o.path) ≡ Some folder) s.made =
     subst (AllByRecursion (λ (o : Out). item_at t (parent o.path) ≡ Some folder)) (sym stage.made) (each_ordered out_text (λ o. item_at t (parent o.path) ≡ Some folder) s.outs written) in
     record {
-      dir = folders.0;
-      above = subst (AllByRecursion (λ (out : Path). item_at t (parent out) ≡ Some folder)) (sym (job_outs s stage)) (each_map out_path (λ out. item_at t (parent out) ≡ Some folder) s.made ordered);
+      dir = ap (λ (j : Job). item_at t j.dir) its.1 ∙ folders.0;
+      above = subst (AllByRecursion (λ (out : Path). item_at t (parent out) ≡ Some folder)) (sym (job_outs s job stage its)) (each_map out_path (λ out. item_at t (parent out) ≡ Some folder) s.made ordered);
     }
 
-pub readied : (s : Stage) (roads : List Path) (m n : Moment) → IsStage s → IsKept is_own s → is_ordered (s ∷ []) ≡ true → see_fault s m.tree ≡ None → roads ≡ s.dir ∷ map above_out s.outs → InWork s [] m n → AreFolders n.tree roads → IsReadied s m n
-readied s roads m n stage kept order none e h folders =
+pub readied : (s : Stage) (job : Job) (roads : List Path) (m n : Moment) → IsStage s → IsKept is_own s → is_ordered (s ∷ []) ≡ true → IsJobOf s job → see_fault s m.tree ≡ None → roads ≡ s.dir ∷ map above_out s.outs → InWork s [] m n → AreFolders n.tree roads → IsReadied job m n
+readied s job roads m n stage kept order its none e h folders =
     record {
-      folders = has_folders s n.tree stage (subst (AreFolders n.tree) e folders);
-      given = given_kept s m n stage kept order none h;
+      folders = has_folders s job n.tree stage its (subst (AreFolders n.tree) e folders);
+      given = given_kept s job m n stage kept order its none h;
     }
 
 -- ---- over histories
@@ -246,8 +248,8 @@ roads_cleared s os roads a b c stage kept none f x y clear =
     subst (λ (rs : List Path). HaveRoads rs c.present.tree) (sym f)
     (roads_clear (s.dir ∷ map above_out s.outs) (map out_path os) b.present c.present y.now clear (roads_scratch s a.present b.present stage kept x.now (roads_have s a.present.tree none)))
 
-pub ready_at : (s : Stage) (os : List Out) (roads : List Path) (a b c d : History) (got : Result (Unit {0}) Failed) → IsStage s → IsKept is_own s → is_ordered (s ∷ []) ≡ true → see_fault s a.present.tree ≡ None → os ≡ s.made → roads ≡ s.dir ∷ map above_out s.outs → PassesFrom InScratch a b → PassesFrom (Keeps (is_in_any (map out_path os))) b c → PassesFrom (InFolders roads) c d → OnOk got (AreFolders d.present.tree roads) → OnOk got (IsReadied s a.present d.present)
-ready_at s os roads a b c d (Err why) stage kept order none e f x y z made = tt
-ready_at s os roads a b c d (Ok done) stage kept order none e f x y z made =
+pub ready_at : (s : Stage) (job : Job) (os : List Out) (roads : List Path) (a b c d : History) (got : Result (Unit {0}) Failed) → IsStage s → IsKept is_own s → is_ordered (s ∷ []) ≡ true → IsJobOf s job → see_fault s a.present.tree ≡ None → os ≡ s.made → roads ≡ s.dir ∷ map above_out s.outs → PassesFrom InScratch a b → PassesFrom (Keeps (is_in_any (map out_path os))) b c → PassesFrom (InFolders roads) c d → OnOk got (AreFolders d.present.tree roads) → OnOk got (IsReadied job a.present d.present)
+ready_at s job os roads a b c d (Err why) stage kept order its none e f x y z made = tt
+ready_at s job os roads a b c d (Ok done) stage kept order its none e f x y z made =
     let work = made_work s os roads a b c d stage kept e f x y z in
-    readied s roads a.present d.present stage kept order none f work.now made
+    readied s job roads a.present d.present stage kept order its none f work.now made

@@ -3,7 +3,7 @@
 --     lane_.., lane_ready, begun_at   a lane that was begun stays: through clears, folders and the job
 --     first_begun, first_cleared, first_made     one call after another
 --     first_same, first_on, first_run            a look, a look before them, and the run of the job
-use Rattle.std.proofs.Common.{◌≡◌, ℕ, List, [], map, inl, inr, refl, sym, subst, ◌∙◌, Some, None, Result, Ok, Err, OnOk}
+use Rattle.std.proofs.Common.{◌≡◌, ℕ, List, map, inl, inr, refl, sym, subst, ◌∙◌, Some, None, Result, Ok, Err, OnOk}
 use Rattle.std.proofs.lemmas.Bool.{false≢true, false_from_ne_true}
 use Rattle.dvc_base.specs.Path.{Path}
 use Rattle.dvc_base.specs.declared.memory.Failed.{Failed}
@@ -18,9 +18,9 @@ use Rattle.world_api.specs.Writes.{in_scratch, IsMade, InScratch}
 use Rattle.world_api.specs.declared.job.Job.{Job}
 use Rattle.world_api.proofs.HistoryLemmas.{passes_same, passes_weaker, passes_on}
 use Rattle.world_api.proofs.LaneLemmas.{tmp_in_dvc, lane_in_tmp}
-use Rattle.repro_laws.specs.Stage.{out_path, stage_outs, job_with, IsStage}
+use Rattle.repro_laws.specs.Stage.{out_path, stage_outs, IsStage}
 use Rattle.repro_laws.specs.Headline.{IsKept}
-use Rattle.repro_laws.specs.Moments.{is_own}
+use Rattle.repro_laws.specs.Moments.{is_own, IsJobOf}
 use Rattle.repro_laws.specs.declared.stage.Out.{Out}
 use Rattle.repro_laws.specs.declared.stage.Stage.{Stage}
 use Rattle.repro_core.specs.Ways.{InFolders, IsLaneFirst}
@@ -82,7 +82,6 @@ first_same s a b e = passes_same (IsLaneFirst s a.present) a b e (first_itself s
 pub first_on : (s : Stage) (a b c : History) → b ≡ a → PassesFrom (IsLaneFirst s) b c → PassesFrom (IsLaneFirst s) a c
 first_on s a b c e x = subst (λ (h : History). PassesFrom (IsLaneFirst s) h c) e x
 
-pub first_run : (s : Stage) (job : Job) (a b c d : History) → IsStage s → IsKept is_own s → job ≡ job_with s [] → b ≡ a → PassesFrom (IsLaneFirst s) b c → IsFileAt (tree_of c) (lane_path 0) → PassesFrom (InRun job) c d → PassesFrom (IsLaneFirst s) a d
-first_run s job a b c d stage kept f e x lane y =
-    let run = subst (λ (j : Job). PassesFrom (InRun j) c d) f y in
-    passes_on (IsLaneFirst s a.present) (InRun (job_with s []) c.present) a c d (first_on s a b c e x) (λ m h. inr (lane_kept s c.present m kept (subst (λ (outs : List Path). KeepsPaths (is_in_any outs) c.present m) (job_outs s stage) h.others) lane)) run
+pub first_run : (s : Stage) (job : Job) (a b c d : History) → IsStage s → IsKept is_own s → IsJobOf s job → b ≡ a → PassesFrom (IsLaneFirst s) b c → IsFileAt (tree_of c) (lane_path 0) → PassesFrom (InRun job) c d → PassesFrom (IsLaneFirst s) a d
+first_run s job a b c d stage kept its e x lane y =
+    passes_on (IsLaneFirst s a.present) (InRun job c.present) a c d (first_on s a b c e x) (λ m h. inr (lane_kept s c.present m kept (subst (λ (outs : List Path). KeepsPaths (is_in_any outs) c.present m) (job_outs s job stage its) h.others) lane)) y

@@ -1,8 +1,10 @@
 mod EntryLemmas
 mod LinesLemmas
+mod KeyedLemmas
 mod LookLemmas
 mod OwnLemmas
 mod SeeLemmas
+mod TrackedLemmas
 pub mod ExitLemmas
 pub mod FirstLemmas
 pub mod GainLemmas

@@ -25,7 +25,7 @@ use Rattle.lock_files.specs.Order.{is_less, put_in, in_order}
 use Rattle.repro_laws.specs.Stage.{out_path, out_text, dep_text, stage_outs, job_with, Names, IsStage}
 use Rattle.repro_laws.specs.Refusals.{first_fault, first_of, refused_out, missing_fault, large_fault, outcome_fault, way_fault}
 use Rattle.repro_laws.specs.Headline.{IsKept}
-use Rattle.repro_laws.specs.Moments.{is_own}
+use Rattle.repro_laws.specs.Moments.{is_own, IsJobOf}
 use Rattle.repro_laws.specs.declared.stage.Dep.{Dep}
 use Rattle.repro_laws.specs.declared.stage.Out.{Out}
 use Rattle.repro_laws.specs.declared.stage.Stage.{Stage}
@@ -55,22 +55,23 @@ outs_paths dir [] names = refl
 outs_paths dir (o ∷ os) names =
     and_from (is_path dir o.text) (list_all (is_path dir) (map out_text os)) (ap is_ok names.0) (outs_paths dir os names.1)
 
-pub runnable : (s : Stage) (job : Job) → IsStage s → job ≡ job_with s [] → IsTrue (is_runnable job)
-runnable s job stage e =
+pub runnable : (s : Stage) (job : Job) → IsStage s → IsJobOf s job → IsTrue (is_runnable job)
+runnable s job stage its =
     let deps = list_all (is_path s.dir) (map dep_text s.deps) in
     let outs = list_all (is_path s.dir) (map out_text s.made) in
-    let apart : are_apart (out_paths (job_with s [])) ≡ true = ap are_apart (job_outs s stage) ∙ stage.apart in
-    ap is_runnable e ∙ and_from (deps && outs) (are_apart (out_paths (job_with s []))) (and_from deps outs (deps_paths s.dir s.deps stage.dep_names) (outs_paths s.dir s.made stage.out_names)) apart
+    let same : Job = job_with s its.0 in
+    let apart : are_apart (out_paths same) ≡ true = ap are_apart (job_outs s same stage (its.0, refl)) ∙ stage.apart in
+    ap is_runnable its.1 ∙ and_from (deps && outs) (are_apart (out_paths same)) (and_from deps outs (deps_paths s.dir s.deps stage.dep_names) (outs_paths s.dir s.made stage.out_names)) apart
 
 -- ---- a file in the way
 
-pub way_due : (s : Stage) (roads : List Path) (m n : Moment) (fault : Fault) → roads ≡ s.dir ∷ map above_out s.outs → IsAnswer (Some fault) (roads_fault m.tree roads) → IfSome m.aside.fixed.effect (λ effect. MakesOuts effect s (Some fault) m n)
-way_due s roads m n fault e (inl free) =
-    if_some m.aside.fixed.effect (λ effect. MakesOuts effect s (Some fault) m n) (λ effect _. inl free)
-way_due s roads m n fault e (inr due) =
+pub way_due : (s : Stage) (job : Job) (roads : List Path) (m n : Moment) (fault : Fault) → roads ≡ s.dir ∷ map above_out s.outs → IsAnswer (Some fault) (roads_fault m.tree roads) → IfSome m.aside.fixed.effect (λ effect. MakesOuts effect s job (Some fault) m n)
+way_due s job roads m n fault e (inl free) =
+    if_some m.aside.fixed.effect (λ effect. MakesOuts effect s job (Some fault) m n) (λ effect _. inl free)
+way_due s job roads m n fault e (inr due) =
     let at : way_fault s m.tree ≡ Some fault = sym (way_roads s m.tree) ∙ ap (roads_fault m.tree) (sym e) ∙ due in
-    if_some m.aside.fixed.effect (λ effect. MakesOuts effect s (Some fault) m n)
-    (λ effect _. inr (ap (λ o. first_fault o (outcome_fault s (effect (invocation_of (job_with s []) m.tree)))) at))
+    if_some m.aside.fixed.effect (λ effect. MakesOuts effect s job (Some fault) m n)
+    (λ effect _. inr (ap (λ o. first_fault o (outcome_fault s (effect (invocation_of job m.tree)))) at))
 
 pub way_none : (s : Stage) (roads : List Path) (t : Tree) → roads ≡ s.dir ∷ map above_out s.outs → roads_fault t roads ≡ None → way_fault s t ≡ None
 way_none s roads t e none = sym (way_roads s t) ∙ ap (roads_fault t) (sym e) ∙ none
@@ -86,16 +87,15 @@ way_tells s roads (Some _) stage e kind told = absurd (false≢true kind)
 -- ---- what the job gave
 
 -- the code and the values that the run left, from the turn's start
-meets : (effect : Effect) (s : Stage) (m k n : Moment) (code : ℤ) → IsStage s → IsReadied s m k → InWork s [] m k → m.aside.fixed.effect ≡ Some effect → IsRun (job_with s []) code k n → Meets (effect (invocation_of (job_with s []) m.tree)) code (map (value_at n.tree) (stage_outs s))
-meets effect s m k n code stage ready work told run =
-    let job = job_with s [] in
+meets : (effect : Effect) (s : Stage) (job : Job) (m k n : Moment) (code : ℤ) → IsStage s → IsJobOf s job → IsReadied job m k → InWork s [] m k → m.aside.fixed.effect ≡ Some effect → IsRun job code k n → Meets (effect (invocation_of job m.tree)) code (map (value_at n.tree) (stage_outs s))
+meets effect s job m k n code stage its ready work told run =
     let known : k.aside.fixed.effect ≡ Some effect = ap (λ (f : Fixed). f.effect) work.aside.fixed ∙ told in
     let values = map (value_at n.tree) (out_paths job) in
     let here : Meets (effect (invocation_of job k.tree)) code values =
     if_some_at k.aside.fixed.effect (λ e. Meets (e (invocation_of job k.tree)) code values) effect known run.outcome in
     let from_start : Meets (effect (invocation_of job m.tree)) code values =
     subst (λ given. Meets (effect given) code values) ready.given here in
-    subst (λ (outs : List Path). Meets (effect (invocation_of job m.tree)) code (map (value_at n.tree) outs)) (job_outs s stage) from_start
+    subst (λ (outs : List Path). Meets (effect (invocation_of job m.tree)) code (map (value_at n.tree) outs)) (job_outs s job stage its) from_start
 
 failed_of_code : (s : Stage) (o : Outcome) (code : ℤ) (values : List Value) → code ≢ pos 0 → Meets o code values → outcome_fault s o ≡ Some (CommandFailed s.name code)
 failed_of_code s (fails found) code values h m = ap (λ (x : ℤ). Some (CommandFailed s.name x)) (sym m.1)
@@ -105,20 +105,20 @@ gives_of_code : (o : Outcome) (values : List Value) → Meets o (pos 0) values �
 gives_of_code (fails found) values m = absurd (m.0 (sym m.1))
 gives_of_code (gives wanted) values m = ap gives (sym m.1)
 
-pub run_due : (s : Stage) (m k n : Moment) (f : Fault) → IsStage s → way_fault s m.tree ≡ None → IsReadied s m k → InWork s [] m k → WasRun (job_with s []) s.name (Some f) k n → MayBe end_kinds (Some f) → IfSome m.aside.fixed.effect (λ effect. MakesOuts effect s (Some f) m n)
-run_due s m k n NoMemory stage none ready work run end =
-    if_some m.aside.fixed.effect (λ effect. MakesOuts effect s (Some NoMemory) m n) (λ effect e. inl refl)
-run_due s m k n WorldFault stage none ready work run end =
-    if_some m.aside.fixed.effect (λ effect. MakesOuts effect s (Some WorldFault) m n) (λ effect e. inl refl)
-run_due s m k n (CommandFailed name found) stage none ready work run end =
-    if_some m.aside.fixed.effect (λ effect. MakesOuts effect s (Some (CommandFailed name found)) m n) (λ effect e. let failed = failed_of_code s (effect (invocation_of (job_with s []) m.tree)) run.0 (map (value_at n.tree) (stage_outs s)) (subst (λ (x : ℤ). x ≢ pos 0) run.2.1 run.2.2) (meets effect s m k n run.0 stage ready work e run.1) in let due = failed ∙ ap (λ (x : ℤ). Some (CommandFailed s.name x)) (sym run.2.1) ∙ ap (λ (x : List ℕ). Some (CommandFailed x found)) (sym run.2.0) in inr (ap (λ o. first_fault o (outcome_fault s (effect (invocation_of (job_with s []) m.tree)))) none ∙ due))
-run_due s m k n _ stage none ready work run end = absurd (false≢true end)
+pub run_due : (s : Stage) (job : Job) (m k n : Moment) (f : Fault) → IsStage s → IsJobOf s job → way_fault s m.tree ≡ None → IsReadied job m k → InWork s [] m k → WasRun job s.name (Some f) k n → MayBe end_kinds (Some f) → IfSome m.aside.fixed.effect (λ effect. MakesOuts effect s job (Some f) m n)
+run_due s job m k n NoMemory stage its none ready work run end =
+    if_some m.aside.fixed.effect (λ effect. MakesOuts effect s job (Some NoMemory) m n) (λ effect e. inl refl)
+run_due s job m k n WorldFault stage its none ready work run end =
+    if_some m.aside.fixed.effect (λ effect. MakesOuts effect s job (Some WorldFault) m n) (λ effect e. inl refl)
+run_due s job m k n (CommandFailed name found) stage its none ready work run end =
+    if_some m.aside.fixed.effect (λ effect. MakesOuts effect s job (Some (CommandFailed name found)) m n) (λ effect e. let failed = failed_of_code s (effect (invocation_of job m.tree)) run.0 (map (value_at n.tree) (stage_outs s)) (subst (λ (x : ℤ). x ≢ pos 0) run.2.1 run.2.2) (meets effect s job m k n run.0 stage its ready work e run.1) in let due = failed ∙ ap (λ (x : ℤ). Some (CommandFailed s.name x)) (sym run.2.1) ∙ ap (λ (x : List ℕ). Some (CommandFailed x found)) (sym run.2.0) in inr (ap (λ o. first_fault o (outcome_fault s (effect (invocation_of job m.tree)))) none ∙ due))
+run_due s job m k n _ stage its none ready work run end = absurd (false≢true end)
 
-gave : (effect : Effect) (s : Stage) (m k n : Moment) → IsStage s → IsReadied s m k → InWork s [] m k → m.aside.fixed.effect ≡ Some effect → WasRun (job_with s []) s.name None k n → effect (invocation_of (job_with s []) m.tree) ≡ gives (map (value_at n.tree) (stage_outs s))
-gave effect s m k n stage ready work told run =
+gave : (effect : Effect) (s : Stage) (job : Job) (m k n : Moment) → IsStage s → IsJobOf s job → IsReadied job m k → InWork s [] m k → m.aside.fixed.effect ≡ Some effect → WasRun job s.name None k n → effect (invocation_of job m.tree) ≡ gives (map (value_at n.tree) (stage_outs s))
+gave effect s job m k n stage its ready work told run =
     let values = map (value_at n.tree) (stage_outs s) in
-    let given = invocation_of (job_with s []) m.tree in
-    gives_of_code (effect given) values (subst (λ (code : ℤ). Meets (effect given) code values) run.2 (meets effect s m k n run.0 stage ready work told run.1))
+    let given = invocation_of job m.tree in
+    gives_of_code (effect given) values (subst (λ (code : ℤ). Meets (effect given) code values) run.2 (meets effect s job m k n run.0 stage its ready work told run.1))
 
 -- ---- what it left
 
@@ -130,23 +130,23 @@ missing_is : (s : Stage) (t : Tree) → IsStage s → missing_fault s (map (valu
 missing_is s t stage =
     missing_at (λ o. value_at t o.path) s (map (value_at t) (stage_outs s)) stage.made stage.out_texts (values_at t s.made)
 
-dir_stays : (s : Stage) (m k n : Moment) → IsStage s → IsReadied s m k → InRun (job_with s []) k n → is_in_any (stage_outs s) s.dir ≡ false → item_at n.tree s.dir ≡ Some folder
-dir_stays s m k n stage ready run out =
+dir_stays : (s : Stage) (job : Job) (m k n : Moment) → IsStage s → IsJobOf s job → IsReadied job m k → InRun job k n → is_in_any (stage_outs s) s.dir ≡ false → item_at n.tree s.dir ≡ Some folder
+dir_stays s job m k n stage its ready run out =
     let folders = ready.folders in
-    run.others.items s.dir (ap (λ (outs : List Path). is_in_any outs s.dir) (job_outs s stage) ∙ out) ∙ folders.dir
+    run.others.items s.dir (ap (λ (outs : List Path). is_in_any outs s.dir) (job_outs s job stage its) ∙ out) ∙ ap (λ (j : Job). item_at k.tree j.dir) (sym its.1) ∙ folders.dir
 
-look_made : (effect : Effect) (s : Stage) (m k n : Moment) (got : Option Fault) → IsStage s → way_fault s m.tree ≡ None → IsReadied s m k → InRun (job_with s []) k n → effect (invocation_of (job_with s []) m.tree) ≡ gives (map (value_at n.tree) (stage_outs s)) → IsAnswer got (first_of (λ o. refused_out s.name o (value_at n.tree o.path)) s.outs) → MakesOuts effect s got m n
-look_made effect s m k n None stage none ready run made due =
-    record { way = none; gave = made; there = missing_is s n.tree stage ∙ due; dir = dir_stays s m k n stage ready run }
-look_made effect s m k n (Some fault) stage none ready run made (inl free) = inl free
-look_made effect s m k n (Some fault) stage none ready run made (inr due) =
+look_made : (effect : Effect) (s : Stage) (job : Job) (m k n : Moment) (got : Option Fault) → IsStage s → IsJobOf s job → way_fault s m.tree ≡ None → IsReadied job m k → InRun job k n → effect (invocation_of job m.tree) ≡ gives (map (value_at n.tree) (stage_outs s)) → IsAnswer got (first_of (λ o. refused_out s.name o (value_at n.tree o.path)) s.outs) → MakesOuts effect s job got m n
+look_made effect s job m k n None stage its none ready run made due =
+    record { way = none; gave = made; there = missing_is s n.tree stage ∙ due; dir = dir_stays s job m k n stage its ready run }
+look_made effect s job m k n (Some fault) stage its none ready run made (inl free) = inl free
+look_made effect s job m k n (Some fault) stage its none ready run made (inr due) =
     let vs = map (value_at n.tree) (stage_outs s) in
-    inr (ap (λ o. first_fault o (outcome_fault s (effect (invocation_of (job_with s []) m.tree)))) none ∙ ap (outcome_fault s) made ∙ ap (λ o. first_fault o (large_fault s vs)) (missing_is s n.tree stage ∙ due))
+    inr (ap (λ o. first_fault o (outcome_fault s (effect (invocation_of job m.tree)))) none ∙ ap (outcome_fault s) made ∙ ap (λ o. first_fault o (large_fault s vs)) (missing_is s n.tree stage ∙ due))
 
-pub look_due : (s : Stage) (m k n : Moment) (got : Option Fault) → IsStage s → way_fault s m.tree ≡ None → IsReadied s m k → InWork s [] m k → InRun (job_with s []) k n → WasRun (job_with s []) s.name None k n → IsAnswer got (first_of (λ o. refused_out s.name o (value_at n.tree o.path)) s.outs) → IfSome m.aside.fixed.effect (λ effect. MakesOuts effect s got m n)
-look_due s m k n got stage none ready work during run due =
-    if_some m.aside.fixed.effect (λ effect. MakesOuts effect s got m n)
-    (λ effect e. look_made effect s m k n got stage none ready during (gave effect s m k n stage ready work e run) due)
+pub look_due : (s : Stage) (job : Job) (m k n : Moment) (got : Option Fault) → IsStage s → IsJobOf s job → way_fault s m.tree ≡ None → IsReadied job m k → InWork s [] m k → InRun job k n → WasRun job s.name None k n → IsAnswer got (first_of (λ o. refused_out s.name o (value_at n.tree o.path)) s.outs) → IfSome m.aside.fixed.effect (λ effect. MakesOuts effect s job got m n)
+look_due s job m k n got stage its none ready work during run due =
+    if_some m.aside.fixed.effect (λ effect. MakesOuts effect s job got m n)
+    (λ effect e. look_made effect s job m k n got stage its none ready during (gave effect s job m k n stage its ready work e run) due)
 
 -- an output of a list is one of the list in order
 put_one : (o : Out) (os : List Out) (p : Path) → IsOneOf (map out_path (o ∷ os)) p → IsOneOf (map out_path (put_in out_text o os)) p
@@ -183,29 +183,28 @@ ran_of f = f.ran
 none_ran : (s : Stage) (m k : Moment) → InWork s [] m k → k.aside.fixed.ran ≡ m.aside.fixed.ran
 none_ran s m k work = ap ran_of work.aside.fixed ∙ append-nil m.aside.fixed.ran
 
-one_ran : (s : Stage) (m k n : Moment) (code : ℤ) → InWork s [] m k → IsRun (job_with s []) code k n → n.aside.fixed.ran ≡ m.aside.fixed.ran ++ job_with s [] ∷ []
-one_ran s m k n code work run =
-    ap ran_of run.ran.fixed ∙ ap (λ (l : List Job). l ++ job_with s [] ∷ []) (none_ran s m k work)
+one_ran : (s : Stage) (job : Job) (m k n : Moment) (code : ℤ) → InWork s [] m k → IsRun job code k n → n.aside.fixed.ran ≡ m.aside.fixed.ran ++ job ∷ []
+one_ran s job m k n code work run = ap ran_of run.ran.fixed ∙ ap (λ (l : List Job). l ++ job ∷ []) (none_ran s m k work)
 
-pub ran_front : (s : Stage) (m n : Moment) → n.aside.fixed.ran ≡ m.aside.fixed.ran → RunsJob s (Some WorldFault) m n
-ran_front s m n e =
-    record { front = []; back = job_with s [] ∷ []; cut = refl; grown = e ∙ sym (append-nil m.aside.fixed.ran) }
+pub ran_front : (job : Job) (m n : Moment) → n.aside.fixed.ran ≡ m.aside.fixed.ran → RunsJob job (Some WorldFault) m n
+ran_front job m n e =
+    record { front = []; back = job ∷ []; cut = refl; grown = e ∙ sym (append-nil m.aside.fixed.ran) }
 
-pub ran_run : (s : Stage) (m k n : Moment) (f : Fault) → InWork s [] m k → WasRun (job_with s []) s.name (Some f) k n → MayBe end_kinds (Some f) → RunsJob s (Some f) m n
-ran_run s m k n NoMemory work run end =
-    record { front = job_with s [] ∷ []; back = []; cut = refl; grown = one_ran s m k n run.0 work run.1 }
-ran_run s m k n WorldFault work run end = ran_front s m n (ap ran_of run.fixed ∙ none_ran s m k work)
-ran_run s m k n (CommandFailed name found) work run end = one_ran s m k n run.0 work run.1
-ran_run s m k n _ work run end = absurd (false≢true end)
+pub ran_run : (s : Stage) (job : Job) (m k n : Moment) (f : Fault) → InWork s [] m k → WasRun job s.name (Some f) k n → MayBe end_kinds (Some f) → RunsJob job (Some f) m n
+ran_run s job m k n NoMemory work run end =
+    record { front = job ∷ []; back = []; cut = refl; grown = one_ran s job m k n run.0 work run.1 }
+ran_run s job m k n WorldFault work run end = ran_front job m n (ap ran_of run.fixed ∙ none_ran s m k work)
+ran_run s job m k n (CommandFailed name found) work run end = one_ran s job m k n run.0 work run.1
+ran_run s job m k n _ work run end = absurd (false≢true end)
 
-pub ran_look : (s : Stage) (m k n : Moment) (got : Option Fault) → InWork s [] m k → WasRun (job_with s []) s.name None k n → MayBe look_kinds got → RunsJob s got m n
-ran_look s m k n None work run kind = one_ran s m k n run.0 work run.1
-ran_look s m k n (Some NoMemory) work run kind =
-    record { front = job_with s [] ∷ []; back = []; cut = refl; grown = one_ran s m k n run.0 work run.1 }
-ran_look s m k n (Some WorldFault) work run kind =
-    record { front = job_with s [] ∷ []; back = []; cut = refl; grown = one_ran s m k n run.0 work run.1 }
-ran_look s m k n (Some (MissingOutput name path)) work run kind = one_ran s m k n run.0 work run.1
-ran_look s m k n (Some _) work run kind = absurd (false≢true kind)
+pub ran_look : (s : Stage) (job : Job) (m k n : Moment) (got : Option Fault) → InWork s [] m k → WasRun job s.name None k n → MayBe look_kinds got → RunsJob job got m n
+ran_look s job m k n None work run kind = one_ran s job m k n run.0 work run.1
+ran_look s job m k n (Some NoMemory) work run kind =
+    record { front = job ∷ []; back = []; cut = refl; grown = one_ran s job m k n run.0 work run.1 }
+ran_look s job m k n (Some WorldFault) work run kind =
+    record { front = job ∷ []; back = []; cut = refl; grown = one_ran s job m k n run.0 work run.1 }
+ran_look s job m k n (Some (MissingOutput name path)) work run kind = one_ran s job m k n run.0 work run.1
+ran_look s job m k n (Some _) work run kind = absurd (false≢true kind)
 
 -- ---- moments
 
@@ -220,27 +219,26 @@ pub works_on : (s : Stage) (a b c : History) → b ≡ a → PassesFrom (InWork 
 works_on s a b c e x =
     passes_weaker (InWork s [] a.present) (InWorks s a.present) a c (works_of_work s a.present) (work_on s a b c e x)
 
-pub works_run : (s : Stage) (job : Job) (a b c d : History) → IsStage s → IsKept is_own s → job ≡ job_with s [] → b ≡ a → PassesFrom (InWork s []) b c → PassesFrom (InRun job) c d → PassesFrom (InWorks s) a d
-works_run s job a b c d stage kept f e x y =
-    let run = subst (λ (j : Job). PassesFrom (InRun j) c d) f y in
-    passes_still s a c d (work_on s a b c e x) (passes_weaker (InRun (job_with s []) c.present) (InWorks s c.present) c d (λ m h. works_of_run s c.present m stage kept h) run)
+pub works_run : (s : Stage) (job : Job) (a b c d : History) → IsStage s → IsKept is_own s → IsJobOf s job → b ≡ a → PassesFrom (InWork s []) b c → PassesFrom (InRun job) c d → PassesFrom (InWorks s) a d
+works_run s job a b c d stage kept its e x y =
+    passes_still s a c d (work_on s a b c e x) (passes_weaker (InRun job c.present) (InWorks s c.present) c d (λ m h. works_of_run s job c.present m stage kept its h) y)
 
 -- ---- after the look at the way, the steps up to the job, and its run
 
-pub record IsRanAt (s : Stage) (m k n : Moment) (got : Option Fault) : Type 0 where
+pub record IsRanAt (s : Stage) (job : Job) (m k n : Moment) (got : Option Fault) : Type 0 where
   pub way : way_fault s m.tree ≡ None
-  pub ready : IsReadied s m k
+  pub ready : IsReadied job m k
   pub work : InWork s [] m k
-  pub during : InRun (job_with s []) k n
-  pub run : WasRun (job_with s []) s.name got k n
+  pub during : InRun job k n
+  pub run : WasRun job s.name got k n
 
-pub ran_at : (s : Stage) (roads : List Path) (job : Job) (a b c d : History) (got : Option Fault) → roads ≡ s.dir ∷ map above_out s.outs → job ≡ job_with s [] → b ≡ a → roads_fault a.present.tree roads ≡ None → IsReadied s b.present c.present → PassesFrom (InWork s []) b c → PassesFrom (InRun job) c d → WasRun job s.name got c.present d.present → IsRanAt s a.present c.present d.present got
-ran_at s roads job a b c d got r f e none ready x y run =
+pub ran_at : (s : Stage) (roads : List Path) (job : Job) (a b c d : History) (got : Option Fault) → roads ≡ s.dir ∷ map above_out s.outs → b ≡ a → roads_fault a.present.tree roads ≡ None → IsReadied job b.present c.present → PassesFrom (InWork s []) b c → PassesFrom (InRun job) c d → WasRun job s.name got c.present d.present → IsRanAt s job a.present c.present d.present got
+ran_at s roads job a b c d got r e none ready x y run =
     let work = work_on s a b c e x in
     record {
       way = way_none s roads a.present.tree r none;
-      ready = subst (λ (h : History). IsReadied s h.present c.present) e ready;
+      ready = subst (λ (h : History). IsReadied job h.present c.present) e ready;
       work = work.now;
-      during = subst (λ (j : Job). InRun j c.present d.present) f y.now;
-      run = subst (λ (j : Job). WasRun j s.name got c.present d.present) f run;
+      during = y.now;
+      run = run;
     }

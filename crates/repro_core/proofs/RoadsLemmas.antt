@@ -11,7 +11,7 @@ use Rattle.dvc_base.specs.Path.{Path, under}
 use Rattle.dvc_base.specs.declared.fault.Fault.{Fault}
 use Rattle.dvc_base.specs.declared.fault.Fault.TheVariants.{NotFolder, MissingOutput}
 use Rattle.dvc_base.proofs.PathLemmas.{under-refl, under-trans, under-append}
-use Rattle.world_api.specs.Tree.{Tree, folder}
+use Rattle.world_api.specs.Tree.{Tree}
 use Rattle.world_api.specs.Calls.{parent, is_apart, are_apart}
 use Rattle.repro_laws.specs.Stage.{out_path, out_text, stage_outs, IsStage}
 use Rattle.repro_laws.specs.Refusals.{first_fault, first_of, road_fault, way_fault}

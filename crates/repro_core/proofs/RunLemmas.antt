@@ -35,12 +35,12 @@ use Rattle.lock_files.specs.declared.entry.Entry.{Entry}
 use Rattle.lock_files.specs.declared.entry.PathEntry.{PathEntry}
 use Rattle.lock_files.specs.Book.{Lock, set}
 use Rattle.change_check.specs.declared.seen.SeenPath.{SeenPath}
-use Rattle.repro_laws.specs.Stage.{out_path, stage_outs, job_with, value_inside, IsStage}
+use Rattle.repro_laws.specs.Stage.{out_path, stage_outs, params_at, job_with, value_inside, IsStage}
 use Rattle.repro_laws.specs.Entries.{seen_dep, seen_out, all_named, entry_at}
 use Rattle.repro_laws.specs.Limits.{limit_fault}
 use Rattle.repro_laws.specs.Refusals.{first_fault, first_of, see_fault, large_fault, outcome_fault, run_fault}
 use Rattle.repro_laws.specs.Due.{Due, standing_of, choice_at, due, turn_fault, jobs}
-use Rattle.repro_laws.specs.Turns.{state, OthersStay, Runs, AreStored, Turn}
+use Rattle.repro_laws.specs.Turns.{state, is_way, OthersStay, Runs, AreStored, Turn}
 use Rattle.repro_laws.specs.Headline.{is_ordered, IsKept, is_any_way}
 use Rattle.repro_laws.specs.Moments.{is_own, in_turns, in_places, IsNewLock, IsRunOf, IsRecorded, InTurns}
 use Rattle.repro_laws.specs.Sound.{lock_of, IsAnswerAt}
@@ -51,7 +51,7 @@ use Rattle.repro_laws.specs.declared.stage.Flags.{Flags}
 use Rattle.repro_laws.specs.declared.stage.Choice.{Choice}
 use Rattle.repro_laws.specs.declared.stage.Choice.TheVariants.{Run}
 use Rattle.repro_laws.proofs.AlikeLemmas.{each_on, each_two, each_mapped, map_same}
-use Rattle.repro_laws.proofs.LoneLemmas.{no_params_read}
+use Rattle.repro_laws.proofs.CoverLemmas.{apart_own, read_stays}
 use Rattle.repro_laws.proofs.LockEntries.{lock_of_same, lock_of_new}
 use Rattle.repro_laws.proofs.MomentLemmas.{kept_place_then}
 use Rattle.repro_laws.proofs.NamedLemmas.{entry_made}
@@ -67,13 +67,14 @@ use Rattle.repro_core.proofs.WorkLemmas.{work_keeps_lock, work_place, work_of_st
 
 -- ---- the start
 
-pub record IsStart (flags : Flags) (s : Stage) (choice : Choice) (lock : Lock) (m : Moment) : Type 0 where
+pub record IsStart (flags : Flags) (s : Stage) (ps : List ParamFile) (choice : Choice) (lock : Lock) (m : Moment) : Type 0 where
   pub stage : IsStage s
   pub kept : IsKept is_own s
   pub ordered : is_ordered (s ∷ []) ≡ true
   pub read : lock_of m.tree ≡ Some lock
   pub place : CanWrite lock_path m.tree
-  pub chosen : choice_at flags s [] (standing_of m.tree lock) ≡ (choice, None)
+  pub params : params_at s m.tree ≡ Ok ps
+  pub chosen : choice_at flags s ps (standing_of m.tree lock) ≡ (choice, None)
   pub seen : see_fault s m.tree ≡ None
   pub stands : IsTree m.tree
 
@@ -82,17 +83,17 @@ none_some a e = cc
 
 -- ---- a run that was refused
 
-module _ (flags : Flags) (effect : Effect) (s : Stage) (lock : Lock) (f : Fault) (old now : History) (start : IsStart flags s Run lock old.present) where
+module _ (flags : Flags) (effect : Effect) (s : Stage) (ps : List ParamFile) (lock : Lock) (f : Fault) (old now : History) (start : IsStart flags s ps Run lock old.present) where
   abbrev whole_jobs : List Job
   whole_jobs = jobs (due flags effect (s ∷ []) (standing_of (tree_of old) lock))
 
-  due_jobs : whole_jobs ≡ job_with s [] ∷ []
-  due_jobs = jobs_alone flags effect s (tree_of old) lock Run None start.stage start.chosen start.seen
+  due_jobs : whole_jobs ≡ job_with s ps ∷ []
+  due_jobs = jobs_alone flags effect s (tree_of old) lock Run None ps start.params start.chosen start.seen
 
-  due_fault : turn_fault flags effect s (standing_of (tree_of old) lock) ≡ run_fault effect s [] (tree_of old)
-  due_fault = fault_alone flags effect s (tree_of old) lock Run None start.stage start.chosen start.seen
+  due_fault : turn_fault flags effect s (standing_of (tree_of old) lock) ≡ run_fault effect s ps (tree_of old)
+  due_fault = fault_alone flags effect s (tree_of old) lock Run None ps start.params start.chosen start.seen
 
-  pub turned_early : IsAnswerAt (tree_of now) (Some f) (run_fault effect s [] (tree_of old)) → JobsGain (tree_of now) (Some f) (jobs_of old) (job_with s [] ∷ []) (jobs_of now) → PassesFrom (InWorks s) old now → Turned flags effect s Run lock lock (Some f) old now
+  pub turned_early : IsAnswerAt (tree_of now) (Some f) (run_fault effect s ps (tree_of old)) → JobsGain (tree_of now) (Some f) (jobs_of old) (job_with s ps ∷ []) (jobs_of now) → PassesFrom (InWorks s) old now → Turned flags effect s Run lock lock (Some f) old now
   turned_early answer ran moments =
       let work = moments.now in
       record {
@@ -123,32 +124,32 @@ entry_fields a b ds os ps qs x y =
     ap (λ (v : List (List ℕ)). record { commands = v; deps = ds; params = ps; outs = os }) x ∙ ap (λ (v : List ParamFile). record { commands = b; deps = ds; params = v; outs = os }) y
 
 -- what a run has made at b is whole in the cache at c, and its entry tells of it
-pub record IsDone (effect : Effect) (s : Stage) (e : Entry) (a b c : Moment) : Type 0 where
+pub record IsDone (effect : Effect) (s : Stage) (ps : List ParamFile) (e : Entry) (a b c : Moment) : Type 0 where
   pub work : InWorks s a b
-  pub made : HasMade effect s a b
-  pub ran : b.aside.fixed.ran ≡ a.aside.fixed.ran ++ job_with s [] ∷ []
+  pub made : HasMade effect s (job_with s ps) a b
+  pub ran : b.aside.fixed.ran ≡ a.aside.fixed.ran ++ job_with s ps ∷ []
   pub small : first_of (λ o. limit_fault (value_at b.tree o.path)) s.outs ≡ None
   pub put : InStored b c
   pub stored : AreStored c.tree s.made
   pub commands : e.commands ≡ s.commands
   pub deps : all_named (map (seen_dep a.tree) s.deps) ≡ Some e.deps
-  pub params : e.params ≡ []
+  pub params : e.params ≡ ps
   pub outs : all_named (map (seen_out b.tree) s.made) ≡ Some e.outs
 
 outs_mapped : (t : Tree) (os : List Out) → map (value_at t) (map out_path os) ≡ map (λ o. value_at t o.path) os
 outs_mapped t [] = refl
 outs_mapped t (o ∷ os) = ap (λ vs. value_at t o.path ∷ vs) (outs_mapped t os)
 
-fault_made : (effect : Effect) (s : Stage) (a b : Moment) → IsStage s → HasMade effect s a b → run_fault effect s [] a.tree ≡ first_of (λ o. limit_fault (value_at b.tree o.path)) s.outs
-fault_made effect s a b stage made =
+fault_made : (effect : Effect) (s : Stage) (ps : List ParamFile) (a b : Moment) → IsStage s → HasMade effect s (job_with s ps) a b → run_fault effect s ps a.tree ≡ first_of (λ o. limit_fault (value_at b.tree o.path)) s.outs
+fault_made effect s ps a b stage made =
     let vs : List Value = map (value_at b.tree) (stage_outs s) in
-    ap (λ o. first_fault o (outcome_fault s (effect (invocation_of (job_with s []) a.tree)))) made.way
+    ap (λ o. first_fault o (outcome_fault s (effect (invocation_of (job_with s ps) a.tree)))) made.way
     ∙ ap (outcome_fault s) made.gave
     ∙ ap (λ o. first_fault o (large_fault s vs)) made.there
     ∙ large_at (λ o. value_at b.tree o.path) s vs stage.made stage.out_texts (outs_mapped b.tree s.made)
 
-fault_free : (effect : Effect) (s : Stage) (a b : Moment) → IsStage s → HasMade effect s a b → first_of (λ o. limit_fault (value_at b.tree o.path)) s.outs ≡ None → run_fault effect s [] a.tree ≡ None
-fault_free effect s a b stage made small = fault_made effect s a b stage made ∙ small
+fault_free : (effect : Effect) (s : Stage) (ps : List ParamFile) (a b : Moment) → IsStage s → HasMade effect s (job_with s ps) a b → first_of (λ o. limit_fault (value_at b.tree o.path)) s.outs ≡ None → run_fault effect s ps a.tree ≡ None
+fault_free effect s ps a b stage made small = fault_made effect s ps a b stage made ∙ small
 
 -- ---- the write of the lock
 
@@ -221,12 +222,12 @@ held s written c n kept stored write =
     each_two (λ o. value_at n.tree o.path ≡ value_at c.tree o.path) (λ o. o.cached ≡ true → is_stored c.tree (value_at c.tree o.path) ≡ true) (λ o. o.cached ≡ true → is_stored n.tree (value_at n.tree o.path) ≡ true) s.made
     (λ o v h cached. ap (is_stored n.tree) v ∙ whole_more c.tree n.tree (value_at c.tree o.path) (λ name. record_object written c n name write) (h cached)) same stored
 
-module _ (flags : Flags) (effect : Effect) (s : Stage) (lock : Lock) (e : Entry) (a b c n : Moment) (start : IsStart flags s Run lock a) (done : IsDone effect s e a b c) (write : InRecord (set lock s.name e) c n) (stands : IsTree n.tree) where
+module _ (flags : Flags) (effect : Effect) (s : Stage) (ps : List ParamFile) (lock : Lock) (e : Entry) (a b c n : Moment) (start : IsStart flags s ps Run lock a) (done : IsDone effect s ps e a b c) (write : InRecord (set lock s.name e) c n) (stands : IsTree n.tree) where
   abbrev written : Lock
   written = set lock s.name e
 
   abbrev turn_of : Due
-  turn_of = record { stage = s; choice = Run; job = job_with s [] }
+  turn_of = record { stage = s; choice = Run; job = job_with s ps }
 
   only_own : OnlyOwn b.tree n.tree
   only_own = item_then b.tree c.tree n.tree (item_stored s b c done.put) (item_recorded s written c n write)
@@ -250,18 +251,22 @@ module _ (flags : Flags) (effect : Effect) (s : Stage) (lock : Lock) (e : Entry)
   deps_stay =
       deps_kept is_own s (state a.tree lock) (state n.tree written) start.stage start.kept start.ordered start.stands stands start.seen others_stay
 
-  still_present : entry_at s [] n.tree ≡ Some e
-  still_present =
-      entry_made s [] n.tree e.deps e.outs (ap all_named (same_seen_deps a.tree n.tree s.deps deps_stay) ∙ done.deps) (ap all_named (same_seen_outs b.tree n.tree s.made outs_stay) ∙ done.outs)
-      ∙ ap (λ (x : Entry). Some x) (entry_fields s.commands e.commands e.deps e.outs [] e.params (sym done.commands) (sym done.params))
+  params_stay : params_at s n.tree ≡ Ok ps
+  params_stay =
+      read_stays is_own (is_way s) (stage_outs s) s a.tree n.tree start.kept (apart_own s start.ordered) start.stands stands others_stay ∙ start.params
 
-  run_left : Runs is_own effect s [] (state a.tree lock) (state n.tree written)
+  still_present : entry_at s ps n.tree ≡ Some e
+  still_present =
+      entry_made s ps n.tree e.deps e.outs (ap all_named (same_seen_deps a.tree n.tree s.deps deps_stay) ∙ done.deps) (ap all_named (same_seen_outs b.tree n.tree s.made outs_stay) ∙ done.outs)
+      ∙ ap (λ (x : Entry). Some x) (entry_fields s.commands e.commands e.deps e.outs ps e.params (sym done.commands) (sym done.params))
+
+  run_left : Runs is_own effect s ps (state a.tree lock) (state n.tree written)
   run_left =
       let made = done.made in
       let kept = start.kept in
       record {
         entry = e;
-        fault = fault_free effect s a b start.stage made done.small;
+        fault = fault_free effect s ps a b start.stage made done.small;
         dir = λ out. only_own s.dir kept.dir ∙ made.dir out;
         values = made.gave ∙ ap gives (sym values_stay);
         present = still_present;
@@ -271,14 +276,13 @@ module _ (flags : Flags) (effect : Effect) (s : Stage) (lock : Lock) (e : Entry)
 
   pub turn_here : Turn is_own flags effect turn_of (state a.tree lock) (state n.tree written)
   turn_here =
-      let stage = start.stage in
       let works = done.work in
       let work = works.work in
       let put = done.put in
       record {
-        params = [];
+        params = ps;
         from = None;
-        read = no_params_read s a.tree stage.no_params;
+        read = start.params;
         seen = start.seen;
         chosen = start.chosen;
         job = refl;
@@ -289,7 +293,7 @@ module _ (flags : Flags) (effect : Effect) (s : Stage) (lock : Lock) (e : Entry)
       }
 
   -- the job has run, and nothing has since
-  pub jobs_here : n.aside.fixed.ran ≡ a.aside.fixed.ran ++ job_with s [] ∷ []
+  pub jobs_here : n.aside.fixed.ran ≡ a.aside.fixed.ran ++ job_with s ps ∷ []
   jobs_here =
       let put = done.put in
       let stored = put.others in
@@ -303,28 +307,28 @@ module _ (flags : Flags) (effect : Effect) (s : Stage) (lock : Lock) (e : Entry)
         ran = record {
           before = [];
           after = [];
-          ran = jobs_here ∙ ap (λ (l : List Job). l ++ job_with s [] ∷ []) (sym (append-nil a.aside.fixed.ran));
+          ran = jobs_here ∙ ap (λ (l : List Job). l ++ job_with s ps ∷ []) (sym (append-nil a.aside.fixed.ran));
         };
         made = record {
-          params = [];
-          read = no_params_read s n.tree stage.no_params;
-          made = ap effect (same_given s [] a.tree n.tree stage deps_stay) ∙ run_left.values;
+          params = ps;
+          read = params_stay;
+          made = ap effect (same_given s ps a.tree n.tree stage deps_stay) ∙ run_left.values;
         };
         entry = turn_entry is_own flags effect turn_of (state a.tree lock) (state n.tree written) stage start.kept start.ordered start.stands turn_here;
       }
 
 -- ---- the whole run
 
-runs_gain : (s : Stage) (got : Option Fault) (t : Tree) (m n : Moment) → RunsJob s got m n → JobsGain t got m.aside.fixed.ran (job_with s [] ∷ []) n.aside.fixed.ran
-runs_gain s None t m n h = inl (inl h)
-runs_gain s (Some (NotFolder path)) t m n h =
-    inr (tt, record { front = []; last = job_with s []; cut = refl; grown = h ∙ sym (append-nil m.aside.fixed.ran) })
-runs_gain s (Some _) t m n h = inl (inl h)
+runs_gain : (job : Job) (got : Option Fault) (t : Tree) (m n : Moment) → RunsJob job got m n → JobsGain t got m.aside.fixed.ran (job ∷ []) n.aside.fixed.ran
+runs_gain job None t m n h = inl (inl h)
+runs_gain job (Some (NotFolder path)) t m n h =
+    inr (tt, record { front = []; last = job; cut = refl; grown = h ∙ sym (append-nil m.aside.fixed.ran) })
+runs_gain job (Some _) t m n h = inl (inl h)
 
 -- the run was refused before its outputs were put
-pub turned_unmade : (flags : Flags) (effect : Effect) (s : Stage) (lock : Lock) (f : Fault) (old now : History) → IsStart flags s Run lock old.present → IsAnswer (Some f) (run_fault effect s [] (tree_of old)) → RunsJob s (Some f) old.present now.present → PassesFrom (InWorks s) old now → Turned flags effect s Run lock lock (Some f) old now
-turned_unmade flags effect s lock f old now start answer ran moments =
-    turned_early flags effect s lock f old now start (inl answer) (runs_gain s (Some f) (tree_of now) old.present now.present ran) moments
+pub turned_unmade : (flags : Flags) (effect : Effect) (s : Stage) (ps : List ParamFile) (lock : Lock) (f : Fault) (old now : History) → IsStart flags s ps Run lock old.present → IsAnswer (Some f) (run_fault effect s ps (tree_of old)) → RunsJob (job_with s ps) (Some f) old.present now.present → PassesFrom (InWorks s) old now → Turned flags effect s Run lock lock (Some f) old now
+turned_unmade flags effect s ps lock f old now start answer ran moments =
+    turned_early flags effect s ps lock f old now start (inl answer) (runs_gain (job_with s ps) (Some f) (tree_of now) old.present now.present ran) moments
 
 -- while its outputs are put
 passes_stored : (s : Stage) (old mid now : History) → PassesFrom (InWorks s) old mid → PassesFrom InStored mid now → PassesFrom (InWorks s) old now
@@ -337,17 +341,17 @@ stored_ran old mid now js put ran =
     let others = here.others in
     ap (λ (x : Fixed). x.ran) others.aside.fixed ∙ ran
 
-pub turned_unstored : (flags : Flags) (effect : Effect) (s : Stage) (lock : Lock) (f : Fault) (old mid now : History) → IsStart flags s Run lock old.present → HasMade effect s old.present mid.present → jobs_of mid ≡ jobs_of old ++ job_with s [] ∷ [] → IsAnswerAt (tree_of now) (Some f) (first_of (λ o. limit_fault (value_at (tree_of mid) o.path)) s.outs) → PassesFrom (InWorks s) old mid → PassesFrom InStored mid now → Turned flags effect s Run lock lock (Some f) old now
-turned_unstored flags effect s lock f old mid now start made ran answer before put =
-    turned_early flags effect s lock f old now start
-    (subst (λ (o : Option Fault). IsAnswerAt (tree_of now) (Some f) o) (sym (fault_made effect s old.present mid.present start.stage made)) answer)
-    (inl (inl (gains_all (Some f) (jobs_of old) (job_with s [] ∷ []) (jobs_of now) (stored_ran old mid now (job_with s [] ∷ []) put ran))))
+pub turned_unstored : (flags : Flags) (effect : Effect) (s : Stage) (ps : List ParamFile) (lock : Lock) (f : Fault) (old mid now : History) → IsStart flags s ps Run lock old.present → HasMade effect s (job_with s ps) old.present mid.present → jobs_of mid ≡ jobs_of old ++ job_with s ps ∷ [] → IsAnswerAt (tree_of now) (Some f) (first_of (λ o. limit_fault (value_at (tree_of mid) o.path)) s.outs) → PassesFrom (InWorks s) old mid → PassesFrom InStored mid now → Turned flags effect s Run lock lock (Some f) old now
+turned_unstored flags effect s ps lock f old mid now start made ran answer before put =
+    turned_early flags effect s ps lock f old now start
+    (subst (λ (o : Option Fault). IsAnswerAt (tree_of now) (Some f) o) (sym (fault_made effect s ps old.present mid.present start.stage made)) answer)
+    (inl (inl (gains_all (Some f) (jobs_of old) (job_with s ps ∷ []) (jobs_of now) (stored_ran old mid now (job_with s ps ∷ []) put ran))))
     (passes_stored s old mid now before put)
 
-pub turned_stopped : (flags : Flags) (effect : Effect) (s : Stage) (lock : Lock) (f : Fault) (old mid now : History) → IsStart flags s Run lock old.present → IsTrue (is_free f) → jobs_of mid ≡ jobs_of old ++ job_with s [] ∷ [] → PassesFrom (InWorks s) old mid → PassesFrom InStored mid now → Turned flags effect s Run lock lock (Some f) old now
-turned_stopped flags effect s lock f old mid now start free ran before put =
-    turned_early flags effect s lock f old now start (inl (inl free))
-    (inl (inl (gains_all (Some f) (jobs_of old) (job_with s [] ∷ []) (jobs_of now) (stored_ran old mid now (job_with s [] ∷ []) put ran))))
+pub turned_stopped : (flags : Flags) (effect : Effect) (s : Stage) (ps : List ParamFile) (lock : Lock) (f : Fault) (old mid now : History) → IsStart flags s ps Run lock old.present → IsTrue (is_free f) → jobs_of mid ≡ jobs_of old ++ job_with s ps ∷ [] → PassesFrom (InWorks s) old mid → PassesFrom InStored mid now → Turned flags effect s Run lock lock (Some f) old now
+turned_stopped flags effect s ps lock f old mid now start free ran before put =
+    turned_early flags effect s ps lock f old now start (inl (inl free))
+    (inl (inl (gains_all (Some f) (jobs_of old) (job_with s ps ∷ []) (jobs_of now) (stored_ran old mid now (job_with s ps ∷ []) put ran))))
     (passes_stored s old mid now before put)
 
 -- Ok is answered only where nothing is due
@@ -384,21 +388,21 @@ place_stored flags s lock old mid now kept place before put =
     let here = whole.now in
     work_place s here.jobs old.present now.present kept here.work place
 
-module _ (flags : Flags) (effect : Effect) (s : Stage) (lock : Lock) (e : Entry) (old mid put now : History) (start : IsStart flags s Run lock old.present) (done : IsDone effect s e old.present mid.present put.present) (before : PassesFrom (InWorks s) old mid) (stored : PassesFrom InStored mid put) (write : PassesFrom (InRecord (set lock s.name e)) put now) (stands : IsTree (tree_of now)) where
+module _ (flags : Flags) (effect : Effect) (s : Stage) (ps : List ParamFile) (lock : Lock) (e : Entry) (old mid put now : History) (start : IsStart flags s ps Run lock old.present) (done : IsDone effect s ps e old.present mid.present put.present) (before : PassesFrom (InWorks s) old mid) (stored : PassesFrom InStored mid put) (write : PassesFrom (InRecord (set lock s.name e)) put now) (stands : IsTree (tree_of now)) where
   abbrev lock_of_run : Lock
   lock_of_run = set lock s.name e
 
   abbrev its_turn : Due
-  its_turn = record { stage = s; choice = Run; job = job_with s [] }
+  its_turn = record { stage = s; choice = Run; job = job_with s ps }
 
   works : PassesFrom (InWorks s) old put
   works = passes_stored s old mid put before stored
 
   the_turn : Turn is_own flags effect its_turn (state (tree_of old) lock) (state (tree_of now) lock_of_run)
-  the_turn = turn_here flags effect s lock e old.present mid.present put.present now.present start done write.now stands
+  the_turn = turn_here flags effect s ps lock e old.present mid.present put.present now.present start done write.now stands
 
   the_run : IsRunOf effect lock_of_run old.present now.present its_turn
-  the_run = run_here flags effect s lock e old.present mid.present put.present now.present start done write.now stands
+  the_run = run_here flags effect s ps lock e old.present mid.present put.present now.present start done write.now stands
 
   recorded_at : (n : Moment) → InRecord lock_of_run put.present n → IsNewLock lock_of_run n → IsRecorded flags effect (s ∷ []) lock old.present now.present n
   recorded_at n h new =
@@ -429,22 +433,22 @@ module _ (flags : Flags) (effect : Effect) (s : Stage) (lock : Lock) (e : Entry)
       passes_on turns (InRecord lock_of_run put.present) old put now (passes_weaker (InWorks s old.present) turns old put to_turns works)
       (λ n h. turns_recorded flags effect s lock lock_of_run old.present put.present now.present n (to_turns put.present works.now) h (lock_at n h)) write
 
-  recorded_ran : jobs_of now ≡ jobs_of old ++ job_with s [] ∷ []
+  recorded_ran : jobs_of now ≡ jobs_of old ++ job_with s ps ∷ []
   recorded_ran =
       let here = write.now in
       let others = here.others in
-      ap (λ (x : Fixed). x.ran) others.aside.fixed ∙ stored_ran old mid put (job_with s [] ∷ []) stored done.ran
+      ap (λ (x : Fixed). x.ran) others.aside.fixed ∙ stored_ran old mid put (job_with s ps ∷ []) stored done.ran
 
   recorded_gain : (got : Option Fault) → JobsGain (tree_of now) got (jobs_of old) (jobs (due flags effect (s ∷ []) (standing_of (tree_of old) lock))) (jobs_of now)
   recorded_gain got =
-      inl (inl (gains_all got (jobs_of old) (jobs (due flags effect (s ∷ []) (standing_of (tree_of old) lock))) (jobs_of now) (recorded_ran ∙ ap (λ (l : List Job). jobs_of old ++ l) (sym (jobs_alone flags effect s (tree_of old) lock Run None start.stage start.chosen start.seen)))))
+      inl (inl (gains_all got (jobs_of old) (jobs (due flags effect (s ∷ []) (standing_of (tree_of old) lock))) (jobs_of now) (recorded_ran ∙ ap (λ (l : List Job). jobs_of old ++ l) (sym (jobs_alone flags effect s (tree_of old) lock Run None ps start.params start.chosen start.seen)))))
 
   -- the lock was written
   whole_turn : IsNewLock lock_of_run now.present → Turned flags effect s Run lock lock_of_run None old now
   whole_turn new =
       let here = write.now in
       record {
-        answer = inl (fault_alone flags effect s (tree_of old) lock Run None start.stage start.chosen start.seen ∙ the_fault);
+        answer = inl (fault_alone flags effect s (tree_of old) lock Run None ps start.params start.chosen start.seen ∙ the_fault);
         turn = λ none. record {
           due = its_turn;
           its = refl;
@@ -459,8 +463,8 @@ module _ (flags : Flags) (effect : Effect) (s : Stage) (lock : Lock) (e : Entry)
         moments = recorded_moments;
       }
     where
-      the_fault : run_fault effect s [] (tree_of old) ≡ None
-      the_fault = fault_free effect s old.present mid.present start.stage done.made done.small
+      the_fault : run_fault effect s ps (tree_of old) ≡ None
+      the_fault = fault_free effect s ps old.present mid.present start.stage done.made done.small
 
   -- the call that publishes it has failed: it may have been written
   late_turn : (new : Lock) → Turned flags effect s Run lock new (Some WorldFault) old now
@@ -481,7 +485,7 @@ module _ (flags : Flags) (effect : Effect) (s : Stage) (lock : Lock) (e : Entry)
   -- want of memory came before anything was touched
   stopped_turn : (new : Lock) → now ≡ put → Turned flags effect s Run lock new (Some NoMemory) old now
   stopped_turn new same =
-      let early = turned_stopped flags effect s lock NoMemory old mid put start refl done.ran before stored in
+      let early = turned_stopped flags effect s ps lock NoMemory old mid put start refl done.ran before stored in
       record {
         answer = inl (inl refl);
         turn = λ none. absurd (none_some NoMemory none);

@@ -4,24 +4,36 @@
 --     answer_again         the answer of a look as they are written, after one in order
 --     none_again           where none is refused in order, none is as they are written
 --     seen_more            paths that are seen, one list after another
-use Rattle.std.proofs.Common.{◌≡◌, ℕ, ◌+◌, ◌<◌, List, [], ◌∷◌, ◌++◌, length, take, drop, get_or, map, inl, inr, refl, sym, ap, ◌∙◌, subst, Option, Some, None, Result, Ok, Err, unwrap_or}
+--     after_deps, after_params     the refusal of what is seen, where nothing before it is refused
+--     good_seen            what is seen is good by its parts
+--     looked_read, looked_seen     the parameters of what was looked at, and what is seen of the stage
+use Rattle.std.proofs.Common.{◌≡◌, ℕ, ◌+◌, ◌<◌, List, [], ◌∷◌, ◌++◌, length, take, drop, get_or, map, inl, inr, refl, sym, ap, ◌∙◌, subst, Option, Some, None, Result, Ok, Err, IfOk, unwrap_or}
 use Rattle.std.specs.List.{list_all}
 use Rattle.std.specs.Result.{result_err}
 use Rattle.std.proofs.lemmas.Bool.{and_from}
 use Rattle.std.proofs.lemmas.List.{take_more, drop_more, map-append}
 use Rattle.std.proofs.lemmas.List.Folds.{list_all-append}
 use Rattle.dvc_base.specs.Answer.{fault_in, IsAnswer}
+use Rattle.dvc_base.specs.declared.data.ParamFile.{ParamFile}
 use Rattle.dvc_base.specs.declared.fault.Fault.{Fault}
+use Rattle.world_api.specs.Tree.{Tree}
 use Rattle.lock_files.specs.declared.entry.PathEntry.{PathEntry}
 use Rattle.lock_files.specs.Form.{is_path_entry}
 use Rattle.lock_files.specs.Order.{in_order}
 use Rattle.lock_files.specs.Value.{path_at}
+use Rattle.change_check.specs.Same.{canonical_files}
+use Rattle.change_check.specs.declared.seen.Seen.{Seen}
 use Rattle.change_check.specs.declared.seen.SeenPath.{SeenPath}
-use Rattle.repro_laws.specs.Entries.{path_named, in_front, all_named}
-use Rattle.repro_laws.specs.Refusals.{first_fault, first_of}
+use Rattle.repro_laws.specs.Params.{AreParams}
+use Rattle.repro_laws.specs.Stage.{params_at, dep_text}
+use Rattle.repro_laws.specs.Entries.{path_named, in_front, all_named, seen_dep, seen_out, seen_at}
+use Rattle.repro_laws.specs.Refusals.{first_fault, first_of, deps_fault, present_fault, see_fault}
+use Rattle.repro_laws.specs.declared.stage.Stage.{Stage}
 use Rattle.repro_laws.proofs.SeenLemmas.{each_none}
 use Rattle.repro_laws.proofs.RefusalLemmas.{none_each, each_in, none_in}
 use Rattle.repro_core.specs.Looks.{AreSeen}
+use Rattle.repro_core.specs.Steps.{IsGoodSeen}
+use Rattle.repro_core.specs.declared.see.Looked.{Looked}
 
 -- ---- the item at a place
 
@@ -88,3 +100,47 @@ seen_more texts more ps qs a b =
         },
       ),
     )
+
+-- ---- what is seen of a stage
+
+module _ (s : Stage) (t : Tree) (got : Option Fault) (deps : deps_fault s t ≡ None) where
+  pub after_deps : IsAnswer got (first_fault (fault_in (params_at s t)) (present_fault s t)) → IsAnswer got (see_fault s t)
+  after_deps h =
+      subst (IsAnswer got) (sym (ap (λ (o : Option Fault). first_fault o (first_fault (fault_in (params_at s t)) (present_fault s t))) deps)) h
+
+  pub after_params : (ps : List ParamFile) → params_at s t ≡ Ok ps → IsAnswer got (present_fault s t) → IsAnswer got (see_fault s t)
+  after_params ps read h =
+      after_deps (subst (IsAnswer got) (sym (ap (λ (r : Result (List ParamFile) Fault). first_fault (fault_in r) (present_fault s t)) read)) h)
+
+-- what is refused first is refused
+pub first_answer : (fault : Fault) (due later : Option Fault) → IsAnswer (Some fault) due → IsAnswer (Some fault) (first_fault due later)
+first_answer fault due later (inl free) = inl free
+first_answer fault due later (inr e) = inr (ap (λ (o : Option Fault). first_fault o later) e)
+
+pub good_seen : (s : Stage) (deps outs : List SeenPath) (ps : List ParamFile) (looked : Looked) → AreSeen (map dep_text s.deps) deps → AreParams ps → length outs ≡ length s.made
+    → looked.seen.deps ≡ deps → looked.seen.outs ≡ outs → looked.params ≡ ps → looked.seen.params ≡ canonical_files ps → IsGoodSeen s looked.params looked.seen
+good_seen s deps outs ps looked named form count d o p v = record {
+  entries = named.0;
+  deps = ap all_named d ∙ named.1.0;
+  named = named.1.1;
+  params = subst AreParams (sym p) form;
+  canonical = v ∙ ap canonical_files (sym p);
+  outs = ap length o ∙ count;
+}
+
+pub looked_read : (r : Result Looked Fault) (due : Result (List ParamFile) Fault) (ps : List ParamFile) → due ≡ Ok ps → IfOk r (λ looked. looked.params ≡ ps) → IfOk r (λ looked. due ≡ Ok looked.params)
+looked_read (Ok looked) due ps read p = read ∙ ap (λ (qs : List ParamFile). Ok qs) (sym p)
+looked_read (Err fault) due ps read p = tt
+
+abbrev seen_with : List (List ℕ) → List SeenPath → List ParamFile → List SeenPath → Seen
+seen_with commands deps params outs = record { commands = commands; deps = deps; params = params; outs = outs }
+
+pub looked_seen : (s : Stage) (t : Tree) (deps : List SeenPath) (r : Result Looked Fault) → deps ≡ map (seen_dep t) s.deps → IfOk r (λ looked. looked.seen.deps ≡ deps) → IfOk r (λ looked. looked.seen.commands ≡ s.commands)
+    → IfOk r (λ looked. looked.seen.outs ≡ map (seen_out t) s.made) → IfOk r (λ looked. IsGoodSeen s looked.params looked.seen) → IfOk r (λ looked. looked.seen ≡ seen_at s looked.params t)
+looked_seen s t deps (Ok looked) due d c o good =
+    let seen = looked.seen in
+    ap (λ (x : List (List ℕ)). seen_with x seen.deps seen.params seen.outs) c
+    ∙ ap (λ (x : List SeenPath). seen_with s.commands x seen.params seen.outs) (d ∙ due)
+    ∙ ap (λ (x : List ParamFile). seen_with s.commands (map (seen_dep t) s.deps) x seen.outs) good.canonical
+    ∙ ap (λ (x : List SeenPath). seen_with s.commands (map (seen_dep t) s.deps) (canonical_files looked.params) x) o
+looked_seen s t deps (Err fault) due d c o good = tt

@@ -202,6 +202,10 @@ in_one (x ∷ ps) p q (inr h) u = any_second (λ y. under y q) (x ∷ []) ps (in
 pub tells_out : (s : Stage) (o : Out) (got : Option Fault) → IsOneOf (stage_outs s) o.path → MayBe store_kinds got → TellsOut s.name o got → TellsOwn s got
 tells_out s o None one kind h = tt
 tells_out s o (Some (f.MissingDependency stage path)) one kind h = absurd (false≢true kind)
+tells_out s o (Some (f.NoFile file)) one kind h = absurd (false≢true kind)
+tells_out s o (Some (f.NoKey file key)) one kind h = absurd (false≢true kind)
+tells_out s o (Some (f.Yaml file why)) one kind h = absurd (false≢true kind)
+tells_out s o (Some (f.Schema file key)) one kind h = absurd (false≢true kind)
 tells_out s o (Some (f.CommandFailed stage code)) one kind h = absurd (false≢true kind)
 tells_out s o (Some (f.MissingOutput stage path)) one kind h = (h.0, subst (IsOneOf (stage_outs s)) (sym h.1) one)
 tells_out s o (Some (f.NotInCache path name)) one kind h = subst (IsOneOf (stage_outs s)) (sym h) one

@@ -3,9 +3,10 @@
 --     TurnedBy, put_free         a turn of the choice that is answered, and lines that couldn't be put
 --     skip_refused, skip_whole   its turn, while its outputs are put into the cache where they weren't
 --     skip_remembered, skip_place     the lock after it
-use Rattle.std.proofs.Common.{◌≡◌, false, List, [], ◌∷◌, ◌++◌, map, inl, refl, sym, ap, subst, ◌∙◌, append-nil, Option, Some, None, IsTrue, Result, IfOk}
+use Rattle.std.proofs.Common.{◌≡◌, false, List, [], ◌∷◌, ◌++◌, map, inl, refl, sym, ap, subst, ◌∙◌, append-nil, Option, Some, None, IsTrue, Result, Ok, IfOk}
 use Rattle.std.specs.List.{AllByRecursion}
 use Rattle.std.proofs.lemmas.Bool.{false≢true}
+use Rattle.dvc_base.specs.declared.data.ParamFile.{ParamFile}
 use Rattle.dvc_base.specs.declared.fault.Fault.{Fault}
 use Rattle.dvc_base.specs.declared.fault.Fault.TheVariants.{NoMemory, OutFault}
 use Rattle.dvc_base.specs.Fault.{MayBe, is_free}
@@ -20,8 +21,8 @@ use Rattle.world_api.specs.declared.job.Job.{Job}
 use Rattle.world_api.proofs.HistoryLemmas.{passes_weaker}
 use Rattle.lock_files.specs.declared.entry.Entry.{Entry}
 use Rattle.lock_files.specs.Book.{Lock}
-use Rattle.repro_laws.specs.Stage.{out_path, job_with, is_nothing, IsStage}
-use Rattle.repro_laws.specs.Refusals.{first_of, refused_out, deps_fault, present_fault, see_fault}
+use Rattle.repro_laws.specs.Stage.{out_path, params_at, job_with, is_nothing, IsStage}
+use Rattle.repro_laws.specs.Refusals.{first_fault, first_of, refused_out, deps_fault, present_fault, see_fault}
 use Rattle.repro_laws.specs.Due.{standing_of, choice_at, due, turn_fault, jobs}
 use Rattle.repro_laws.specs.Turns.{AreStored}
 use Rattle.repro_laws.specs.Headline.{IsKept}
@@ -33,7 +34,6 @@ use Rattle.repro_laws.specs.declared.stage.Flags.{Flags}
 use Rattle.repro_laws.specs.declared.stage.Choice.{Choice}
 use Rattle.repro_laws.specs.declared.stage.Choice.TheVariants.{Skip}
 use Rattle.repro_laws.proofs.AlikeLemmas.{each_mapped}
-use Rattle.repro_laws.proofs.LoneLemmas.{no_params_read, see_without}
 use Rattle.repro_laws.proofs.LockEntries.{lock_of_same}
 use Rattle.repro_laws.proofs.ReadLemmas.{seen_outs}
 use Rattle.repro_laws.proofs.RefusalLemmas.{missing_at, each_missing}
@@ -49,19 +49,20 @@ use Rattle.repro_core.proofs.WorkLemmas.{work_of_stored, work_keeps_lock, work_p
 
 -- ---- the outputs of a stage that is skipped
 
-pub skip_named : (flags : Flags) (s : Stage) (t : Tree) (lock : Lock) → IsStage s → choice_at flags s [] (standing_of t lock) ≡ (Skip, None) → first_of (λ o. refused_out s.name o (value_at t o.path)) s.outs ≡ None
-skip_named flags s t lock stage chosen =
+pub skip_named : (flags : Flags) (s : Stage) (ps : List ParamFile) (t : Tree) (lock : Lock) → IsStage s → params_at s t ≡ Ok ps → choice_at flags s ps (standing_of t lock) ≡ (Skip, None) → first_of (λ o. refused_out s.name o (value_at t o.path)) s.outs ≡ None
+skip_named flags s ps t lock stage read chosen =
     let v : Out → Value = λ o. value_at t o.path in
     let vs : List Value = map v s.made in
-    let parts = skip_parts flags s [] t lock stage (no_params_read s t stage.no_params) (ap (λ (x : Choice × Option Entry). x.0) chosen) in
+    let parts = skip_parts flags s ps t lock stage read (ap (λ (x : Choice × Option Entry). x.0) chosen) in
     let has = parts.1 in
     let there : AllByRecursion (λ o. is_nothing (v o) ≡ false) s.made =
     each_mapped out_path (λ p. is_nothing (value_at t p) ≡ false) s.made (seen_outs has.entry s t has.present) in
     sym (missing_at v s vs stage.made stage.out_texts refl) ∙ each_missing v s vs stage.made stage.out_texts refl there
 
-pub skip_small : (s : Stage) (t : Tree) → IsStage s → see_fault s t ≡ None → present_fault s t ≡ None
-skip_small s t stage seen =
-    (first_none (deps_fault s t) (present_fault s t) (sym (see_without s t stage.no_params) ∙ seen)).1
+pub skip_small : (s : Stage) (t : Tree) → see_fault s t ≡ None → present_fault s t ≡ None
+skip_small s t seen =
+    let later = (first_none (deps_fault s t) (first_fault (fault_in (params_at s t)) (present_fault s t)) seen).1 in
+    (first_none (fault_in (params_at s t)) (present_fault s t) later).1
 
 -- ---- a turn of the choice that is answered
 
@@ -91,9 +92,9 @@ pub skip_place : (s : Stage) (old now : History) → IsKept is_own s → CanWrit
 skip_place s old now kept place put =
     work_place s [] old.present now.present kept (skip_work s old now put) place
 
-module _ (flags : Flags) (effect : Effect) (s : Stage) (lock : Lock) (old now : History) (start : IsStart flags s Skip lock old.present) (put : PassesFrom InStored old now) where
+module _ (flags : Flags) (effect : Effect) (s : Stage) (ps : List ParamFile) (lock : Lock) (old now : History) (start : IsStart flags s ps Skip lock old.present) (put : PassesFrom InStored old now) where
   skip_fault : turn_fault flags effect s (standing_of (tree_of old) lock) ≡ None
-  skip_fault = fault_alone flags effect s (tree_of old) lock Skip None start.stage start.chosen start.seen
+  skip_fault = fault_alone flags effect s (tree_of old) lock Skip None ps start.params start.chosen start.seen
 
   skip_moments : Passes (InTurns flags effect (s ∷ []) lock old.present now.present) old now
   skip_moments =
@@ -105,21 +106,20 @@ module _ (flags : Flags) (effect : Effect) (s : Stage) (lock : Lock) (old now : 
       let whole : List Job = jobs (due flags effect (s ∷ []) (standing_of (tree_of old) lock)) in
       let here = put.now in
       let others = here.others in
-      let none : whole ≡ [] = jobs_alone flags effect s (tree_of old) lock Skip None start.stage start.chosen start.seen in
+      let none : whole ≡ [] = jobs_alone flags effect s (tree_of old) lock Skip None ps start.params start.chosen start.seen in
       inl (inl (gains_all got (jobs_of old) whole (jobs_of now) (ap (λ (x : Fixed). x.ran) others.aside.fixed ∙ sym (append-nil (jobs_of old)) ∙ ap (λ (l : List Job). jobs_of old ++ l) (sym none))))
 
   skip_turned : IsTree (tree_of now) → AreStored (tree_of now) s.made → HasTurned flags effect s Skip lock lock old.present now.present
   skip_turned stands stored =
       let here = put.now in
-      let stage = start.stage in
       record {
-        due = record { stage = s; choice = Skip; job = job_with s [] };
+        due = record { stage = s; choice = Skip; job = job_with s ps };
         its = refl;
         chosen = refl;
         turn = record {
-          params = [];
+          params = ps;
           from = None;
-          read = no_params_read s (tree_of old) stage.no_params;
+          read = start.params;
           seen = start.seen;
           chosen = start.chosen;
           job = refl;

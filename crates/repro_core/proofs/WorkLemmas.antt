@@ -31,10 +31,10 @@ use Rattle.world_api.proofs.TreeLemmas.{under_parent, path_cases}
 use Rattle.object_cache.specs.Objects.{cache_path, object_path, object_at, whole_in}
 use Rattle.object_cache.specs.Store.{shelf_path, is_cache_folder}
 use Rattle.lock_files.specs.Book.{Lock}
-use Rattle.repro_laws.specs.Stage.{out_path, out_text, stage_outs, job_with, Names, IsStage}
+use Rattle.repro_laws.specs.Stage.{out_path, out_text, stage_outs, Names, IsStage}
 use Rattle.repro_laws.specs.Turns.{is_way}
 use Rattle.repro_laws.specs.Headline.{IsApart, IsKept, is_any_way}
-use Rattle.repro_laws.specs.Moments.{is_own, AreJobsOf, in_places, in_turns, InTurns}
+use Rattle.repro_laws.specs.Moments.{is_own, IsJobOf, AreJobsOf, in_places, in_turns, InTurns}
 use Rattle.repro_laws.specs.declared.stage.Out.{Out}
 use Rattle.repro_laws.specs.declared.stage.Stage.{Stage}
 use Rattle.repro_laws.specs.declared.stage.Flags.{Flags}
@@ -370,19 +370,19 @@ outs_mapped dir [] names = refl
 outs_mapped dir (o ∷ os) names =
     ap (λ (p : Path). p ∷ map (path_from dir) (map out_text os)) (ap path_or_root names.0) ∙ ap (λ (ps : List Path). o.path ∷ ps) (outs_mapped dir os names.1)
 
-pub job_outs : (s : Stage) → IsStage s → out_paths (job_with s []) ≡ stage_outs s
-job_outs s stage = outs_mapped s.dir s.made stage.out_names
+pub job_outs : (s : Stage) (job : Job) → IsStage s → IsJobOf s job → out_paths job ≡ stage_outs s
+job_outs s job stage its = ap out_paths its.1 ∙ outs_mapped s.dir s.made stage.out_names
 
-one_job : (s : Stage) → AreJobsOf (job_with s [] ∷ []) (s ∷ [])
-one_job s = inl (([], refl), tt)
+one_job : (s : Stage) (job : Job) → IsJobOf s job → AreJobsOf (job ∷ []) (s ∷ [])
+one_job s job its = inl (its, tt)
 
-pub works_of_run : (s : Stage) (m n : Moment) → IsStage s → IsKept is_own s → InRun (job_with s []) m n → InWorks s m n
-works_of_run s m n stage kept h =
-    let paths = subst (λ (outs : List Path). KeepsPaths (is_in_any outs) m n) (job_outs s stage) h.others in
+pub works_of_run : (s : Stage) (job : Job) (m n : Moment) → IsStage s → IsKept is_own s → IsJobOf s job → InRun job m n → InWorks s m n
+works_of_run s job m n stage kept its h =
+    let paths = subst (λ (outs : List Path). KeepsPaths (is_in_any outs) m n) (job_outs s job stage its) h.others in
     elim h.aside [
       | inl same ↦ record { jobs = []; its = tt; work = work_of_outs s [] m n kept paths (adds_none m.aside n.aside same) }
       | inr more ↦
-          record { jobs = job_with s [] ∷ []; its = one_job s; work = work_of_outs s (job_with s [] ∷ []) m n kept paths more }
+          record { jobs = job ∷ []; its = one_job s job its; work = work_of_outs s (job ∷ []) m n kept paths more }
     ]
 
 -- ---- where the job has run, or not

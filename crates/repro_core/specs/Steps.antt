@@ -1,12 +1,12 @@
 -- What each step of a turn leaves.
---     IsPrepared s prepared            what is prepared has the stage's job, its roads and the lock's path
+--     IsPrepared s prepared            what is prepared has a job of the stage, its roads and the lock's path
 --     .._kinds                         which faults each step may answer
 --     InWork s jobs m n                each moment of a turn before its lock is written, with the jobs that have run
 --     InStored m n                     each moment while outputs are put into the cache
 --     InRecord lock m n                each moment of the write of a lock
 --     AreNamed texts entries           path entries in form, of these texts
---     IsGoodSeen s seen                what is seen has the stage's texts, and a name for each dependency
-use Rattle.std.specs.Prelude.{◌≡◌, ◌≢◌, ◌⊎◌, ◌<◌, ℕ, ℤ, pos, Bool, true, false, ◌||◌, List, [], ◌∷◌, ◌++◌, length, map, Option, Some, None, IfSome, IsTrue}
+--     IsGoodSeen s ps seen             what is seen has the stage's texts, a name for each dependency, and these parameters
+use Rattle.std.specs.Prelude.{◌≡◌, ◌≢◌, ◌⊎◌, ℕ, ℤ, pos, Bool, true, false, ◌||◌, List, [], ◌∷◌, ◌++◌, length, map, Option, Some, None, IsTrue}
 use Rattle.std.specs.List.{list_all}
 use Rattle.dvc_base.specs.Path.{Path}
 use Rattle.dvc_base.specs.Name.{ObjectName}
@@ -15,6 +15,7 @@ use Rattle.dvc_base.specs.declared.fault.Fault.{Fault}
 use Rattle.dvc_base.specs.declared.fault.Fault.TheVariants.{NoMemory, WorldFault, CommandFailed, NotFolder}
 use Rattle.dvc_base.specs.declared.fault.FaultKind.{FaultKind}
 use Rattle.dvc_base.specs.declared.fault.FaultKind.TheVariants as k
+use Rattle.dvc_base.specs.declared.data.ParamFile.{ParamFile}
 use Rattle.world_api.specs.Tree.{Tree, folder, item_at, value_at}
 use Rattle.world_api.specs.Effect.{Effect, gives, invocation_of, is_in_any}
 use Rattle.world_api.specs.History.{Moment, Stays, KeepsPaths, Keeps, itself}
@@ -28,12 +29,14 @@ use Rattle.lock_files.specs.declared.entry.PathEntry.{PathEntry}
 use Rattle.lock_files.specs.Value.{path_at}
 use Rattle.lock_files.specs.Form.{is_path_entry}
 use Rattle.lock_files.specs.Book.{Lock}
+use Rattle.change_check.specs.Same.{canonical_files}
 use Rattle.change_check.specs.declared.seen.Seen.{Seen}
-use Rattle.repro_laws.specs.Stage.{dep_text, out_text, stage_outs, job_with}
+use Rattle.repro_laws.specs.Params.{AreParams}
+use Rattle.repro_laws.specs.Stage.{dep_text, stage_outs}
 use Rattle.repro_laws.specs.Entries.{all_named}
-use Rattle.repro_laws.specs.Refusals.{missing_fault, way_fault, run_fault}
+use Rattle.repro_laws.specs.Refusals.{missing_fault, way_fault, job_fault}
 use Rattle.repro_laws.specs.Turns.{is_way}
-use Rattle.repro_laws.specs.Moments.{in_places, AreJobsOf, IsNewLock}
+use Rattle.repro_laws.specs.Moments.{in_places, IsJobOf, AreJobsOf, IsNewLock}
 use Rattle.repro_laws.specs.declared.stage.Out.{Out}
 use Rattle.repro_laws.specs.declared.stage.Stage.{Stage}
 use Rattle.repro_laws.specs.declared.stage.Choice.{Choice}
@@ -45,7 +48,7 @@ above_out o = parent o.path
 
 -- `roads` are the folders that a run needs: the stage's own, and the one above each output as they are written
 pub record IsPrepared (s : Stage) (prepared : Prepared) : Type 0 where
-  pub job : prepared.job ≡ job_with s []
+  pub job : IsJobOf s prepared.job
   pub roads : prepared.roads ≡ s.dir ∷ map above_out s.outs
   pub lock : prepared.lock ≡ lock_path
 
@@ -59,15 +62,22 @@ choice_if false = Run
 
 -- ---- which faults may come
 
--- of a look at dependencies, of one at outputs as they stand, and of both
+-- of a look at dependencies, and of one at outputs as they stand
 abbrev pub dep_kinds : List FaultKind
 dep_kinds = k.NoMemory ∷ k.WorldFault ∷ k.MissingDependency ∷ k.TooLarge ∷ k.Changed ∷ []
 
 abbrev pub out_kinds : List FaultKind
 out_kinds = k.NoMemory ∷ k.WorldFault ∷ k.TooLarge ∷ k.Changed ∷ []
 
+-- of a file of parameters, and of files with their tracked keys
+abbrev pub params_kinds : List FaultKind
+params_kinds = k.NoMemory ∷ k.WorldFault ∷ k.NoFile ∷ k.Yaml ∷ k.Schema ∷ k.TooLarge ∷ k.Changed ∷ []
+
+abbrev pub tracked_kinds : List FaultKind
+tracked_kinds = k.NoMemory ∷ k.WorldFault ∷ k.NoFile ∷ k.NoKey ∷ k.Yaml ∷ k.Schema ∷ k.TooLarge ∷ k.Changed ∷ []
+
 abbrev pub see_kinds : List FaultKind
-see_kinds = k.NoMemory ∷ k.WorldFault ∷ k.MissingDependency ∷ k.TooLarge ∷ k.Changed ∷ []
+see_kinds = k.MissingDependency ∷ tracked_kinds
 
 -- of the roads of a run, of its job, of the look at what it left, and of all three
 abbrev pub way_kinds : List FaultKind
@@ -101,8 +111,8 @@ run_kinds =
 
 abbrev pub turn_kinds : List FaultKind
 turn_kinds =
-    k.NoMemory ∷ k.WorldFault ∷ k.OutFault ∷ k.MissingDependency ∷ k.CommandFailed ∷ k.MissingOutput ∷ k.NotInCache
-    ∷ k.NotFolder ∷ k.TooLarge ∷ k.Changed ∷ []
+    k.NoMemory ∷ k.WorldFault ∷ k.OutFault ∷ k.MissingDependency ∷ k.NoFile ∷ k.NoKey ∷ k.Yaml ∷ k.Schema ∷ k.CommandFailed
+    ∷ k.MissingOutput ∷ k.NotInCache ∷ k.NotFolder ∷ k.TooLarge ∷ k.Changed ∷ []
 
 -- ---- moments
 
@@ -158,23 +168,23 @@ abbrev pub WasRun : Job → List ℕ → Option Fault → Moment → Moment → 
 WasRun job name (Some WorldFault) m n = Stays itself m.aside n.aside
 WasRun job name got m n = (code : ℤ) × IsRun job code m n × IsEndOf name code got
 
--- the stage's job has run, but where a file was in the way of it
-abbrev pub RunsJob : Stage → Option Fault → Moment → Moment → Type 0
-RunsJob s (Some (NotFolder path)) m n = n.aside.fixed.ran ≡ m.aside.fixed.ran
-RunsJob s got m n = Gains got m.aside.fixed.ran (job_with s [] ∷ []) n.aside.fixed.ran
+-- the job has run, but where a file was in the way of it
+abbrev pub RunsJob : Job → Option Fault → Moment → Moment → Type 0
+RunsJob job (Some (NotFolder path)) m n = n.aside.fixed.ran ≡ m.aside.fixed.ran
+RunsJob job got m n = Gains got m.aside.fixed.ran (job ∷ []) n.aside.fixed.ran
 
 -- the commands have made what stands at the outputs, each of which is there
-pub record HasMade (effect : Effect) (s : Stage) (m n : Moment) : Type 0 where
+pub record HasMade (effect : Effect) (s : Stage) (job : Job) (m n : Moment) : Type 0 where
   pub way : way_fault s m.tree ≡ None
-  pub gave : effect (invocation_of (job_with s []) m.tree) ≡ gives (map (value_at n.tree) (stage_outs s))
+  pub gave : effect (invocation_of job m.tree) ≡ gives (map (value_at n.tree) (stage_outs s))
   pub there : missing_fault s (map (value_at n.tree) (stage_outs s)) ≡ None
   -- what lies in an output is the commands'
   pub dir : is_in_any (stage_outs s) s.dir ≡ false → item_at n.tree s.dir ≡ Some folder
 
 -- the work before the outputs are put: it is refused as is due, or has made them
-abbrev pub MakesOuts : Effect → Stage → Option Fault → Moment → Moment → Type 0
-MakesOuts effect s None m n = HasMade effect s m n
-MakesOuts effect s (Some fault) m n = IsAnswer (Some fault) (run_fault effect s [] m.tree)
+abbrev pub MakesOuts : Effect → Stage → Job → Option Fault → Moment → Moment → Type 0
+MakesOuts effect s job None m n = HasMade effect s job m n
+MakesOuts effect s job (Some fault) m n = IsAnswer (Some fault) (job_fault effect s job m.tree)
 
 -- ---- names
 
@@ -183,9 +193,11 @@ pub record AreNamed (texts : List (List ℕ)) (entries : List PathEntry) : Type 
   pub paths : map path_at entries ≡ texts
   pub good : IsTrue (list_all is_path_entry entries)
 
--- what is seen has a name in form for each dependency, and a place for each output
-pub record IsGoodSeen (s : Stage) (seen : Seen) : Type 0 where
+-- what is seen has a name in form for each dependency, the parameters by value, and a place for each output
+pub record IsGoodSeen (s : Stage) (ps : List ParamFile) (seen : Seen) : Type 0 where
   pub entries : List PathEntry
   pub deps : all_named seen.deps ≡ Some entries
   pub named : AreNamed (map dep_text s.deps) entries
+  pub params : AreParams ps
+  pub canonical : seen.params ≡ canonical_files ps
   pub outs : length seen.outs ≡ length s.made

@@ -6,10 +6,10 @@ use Rattle.std.specs.Prelude.{◌≡◌, ◌⊎◌, ℕ, true, List, [], ◌∷�
 use Rattle.dvc_base.specs.Path.{Path, under}
 use Rattle.dvc_base.specs.Limits.{limit_of}
 use Rattle.dvc_base.specs.declared.fault.Fault.{Fault}
-use Rattle.dvc_base.specs.declared.fault.Fault.TheVariants.{MissingDependency, MissingOutput, NotInCache, NotFolder, Changed, TooLarge, CommandFailed}
+use Rattle.dvc_base.specs.declared.fault.Fault.TheVariants.{MissingDependency, NoFile, NoKey, Yaml, Schema, MissingOutput, NotInCache, NotFolder, Changed, TooLarge, CommandFailed}
 use Rattle.world_api.specs.Effect.{is_in_any}
 use Rattle.object_cache.specs.Store.{shelf_path, is_cache_folder}
-use Rattle.repro_laws.specs.Stage.{dep_path, read_paths, stage_outs}
+use Rattle.repro_laws.specs.Stage.{dep_path, tracked_path, read_paths, stage_outs}
 use Rattle.repro_laws.specs.Turns.{is_way}
 use Rattle.repro_laws.specs.declared.stage.Dep.{Dep}
 use Rattle.repro_laws.specs.declared.stage.Out.{Out}
@@ -22,6 +22,10 @@ IsOneOf (q ∷ qs) p = (p ≡ q) ⊎ IsOneOf qs p
 -- what has changed while it was read lies at a path that the stage names, or is an object
 abbrev pub TellsOwn : Stage → Option Fault → Type 0
 TellsOwn s (Some (MissingDependency stage path)) = (stage ≡ s.name) × IsOneOf (map dep_path s.deps) path
+TellsOwn s (Some (NoFile file)) = IsOneOf (map tracked_path s.params) file
+TellsOwn s (Some (NoKey file key)) = IsOneOf (map tracked_path s.params) file
+TellsOwn s (Some (Yaml file why)) = IsOneOf (map tracked_path s.params) file
+TellsOwn s (Some (Schema file key)) = IsOneOf (map tracked_path s.params) file
 TellsOwn s (Some (MissingOutput stage path)) = (stage ≡ s.name) × IsOneOf (stage_outs s) path
 TellsOwn s (Some (CommandFailed stage code)) = stage ≡ s.name
 TellsOwn s (Some (NotInCache path name)) = IsOneOf (stage_outs s) path

@@ -16,7 +16,7 @@ use Rattle.world_api.specs.Layout.{lock_path}
 use Rattle.world_api.specs.declared.job.Job.{Job}
 use Rattle.lock_files.specs.Book.{Lock}
 use Rattle.repro_laws.specs.Due.{Due, standing_of, due, turn_fault, jobs, report}
-use Rattle.repro_laws.specs.Turns.{State, state, Turn, Turns, stages_of}
+use Rattle.repro_laws.specs.Turns.{state, Turn, Turns, stages_of}
 use Rattle.repro_laws.specs.Moments.{is_own, IsRunOf, InTurns}
 use Rattle.repro_laws.specs.Sound.{lock_of, IsAnswerAt, GainsAt, IsLate}
 use Rattle.repro_laws.specs.declared.stage.Stage.{Stage}

@@ -4,21 +4,22 @@
 --     TellsWay roads got        a file that is told of is on one of them
 --     TellsMade name outs got   an output that is told missing is one of them
 --     InFolders roads m n       each moment while they are made
---     IsReadied s m n           the folders of the stage's job stand, and it is given what stood at the start
+--     IsReadied job m n         the folders of the job stand, and it is given what stood at the start
 --     IsLaneFirst s m n         each moment of a run: its lane has been begun before anything of an output is touched
-use Rattle.std.specs.Prelude.{◌≡◌, ◌⊎◌, ℕ, Bool, true, List, [], map, Option, Some, None, if◌then◌else◌, ⊤}
+use Rattle.std.specs.Prelude.{◌≡◌, ◌⊎◌, ℕ, Bool, true, List, map, Option, Some, None, if◌then◌else◌, ⊤}
 use Rattle.std.specs.List.{AllByRecursion, list_any}
 use Rattle.dvc_base.specs.Path.{Path, under}
 use Rattle.dvc_base.specs.declared.fault.Fault.{Fault}
 use Rattle.dvc_base.specs.declared.fault.Fault.TheVariants.{NotFolder, MissingOutput}
 use Rattle.world_api.specs.Tree.{Tree, Item, item_at}
 use Rattle.world_api.specs.Effect.{invocation_of, is_in_any}
+use Rattle.world_api.specs.declared.job.Job.{Job}
 use Rattle.world_api.specs.Calls.{IsFileAt, HasFolders}
 use Rattle.world_api.specs.History.{Moment, Keeps}
 use Rattle.world_api.specs.Layout.{lane_path}
 use Rattle.world_api.specs.Writes.{IsMade, HasRoad, IsFolderAt}
 use Rattle.repro_laws.specs.Anew.{is_file}
-use Rattle.repro_laws.specs.Stage.{out_path, stage_outs, job_with}
+use Rattle.repro_laws.specs.Stage.{out_path, stage_outs}
 use Rattle.repro_laws.specs.Refusals.{first_of, road_fault}
 use Rattle.repro_laws.specs.declared.stage.Out.{Out}
 use Rattle.repro_laws.specs.declared.stage.Stage.{Stage}
@@ -54,9 +55,9 @@ pub record InFolders (roads : List Path) (m n : Moment) : Type 0 where
   pub made : (q : Path) → IsMade q m n
   pub others : Keeps (is_on_any roads) m n
 
-pub record IsReadied (s : Stage) (m n : Moment) : Type 0 where
-  pub folders : HasFolders (job_with s []) n.tree
-  pub given : invocation_of (job_with s []) n.tree ≡ invocation_of (job_with s []) m.tree
+pub record IsReadied (job : Job) (m n : Moment) : Type 0 where
+  pub folders : HasFolders job n.tree
+  pub given : invocation_of job n.tree ≡ invocation_of job m.tree
 
 -- the outputs are as they were, or the lane for the next lock has been begun
 abbrev pub IsLaneFirst : Stage → Moment → Moment → Type 0

@@ -34,7 +34,7 @@ pub(crate) fn make_ready<F: Files>(
     requires way { IsTrue F.tells → way_fault stage.now (tree_of (F.history files.old)) ≡ None }
     requires no_file { IsTrue F.tells → IsNoFileAt (tree_of (F.history files.old)) dvc_path }
     ensures ready { IsTrue F.tells →
-        OnOk result (IsReadied stage.now (F.history files.old).present (F.history files.new).present) }
+        OnOk result (IsReadied prepared.now.job (F.history files.old).present (F.history files.new).present) }
     ensures begun { IsTrue F.tells → OnOk result (IsFileAt (tree_of (F.history files.new)) (lane_path 0)) }
     ensures lane_first { IsTrue F.tells →
         PassesFrom (IsLaneFirst stage.now) (F.history files.old) (F.history files.new) }

@@ -1,6 +1,7 @@
 //! The turns of stages: what `repro` does for one stage, and for all of them in order.
 #![tactic(auto)]
 
+mod answer;
 mod choose;
 mod folders;
 mod job;
@@ -14,9 +15,11 @@ mod road;
 mod run;
 mod see;
 mod store;
+mod tracked;
 mod turn;
 mod turns;
 mod work;
 
+pub use answer::params_answer;
 pub use turn::run_stage;
 pub use turns::repro;

@@ -1,8 +1,11 @@
 // What a run has at hand before its first change: the stage's job, the folders that it needs, and the lock's path.
-ghost use Rattle.std.specs.Prelude.{◌≡◌, ◌∷◌, [], map, IfOk};
+ghost use Rattle.std.specs.Prelude.{◌≡◌, ◌∷◌, List, map, IfOk};
+ghost use Rattle.dvc_base.specs.declared.data.ParamFile.{ParamFile as AParamFile};
+ghost use Rattle.change_check.specs.Same.{canonical_files};
 ghost use Rattle.repro_laws.specs.Stage.{dep_text, out_text, job_with, IsStage};
-ghost use Rattle.repro_core.specs.Steps.{above_out, IsPrepared};
+ghost use Rattle.repro_core.specs.Steps.{above_out, IsPrepared, IsGoodSeen};
 
+use crate::choose::Chosen;
 use crate::paths::above;
 use dvc_base::{NoMemory, ParamFiles, Plain, Plural, Rel, Texts};
 use repro_laws::{Dep, Out, Stage};
@@ -18,26 +21,33 @@ pub(crate) struct Prepared {
     pub(crate) lock: Rel,
 }
 
-pub(crate) fn prepared_of(alloc: Global, stage: &Stage) -> Result<Prepared, NoMemory>
-    requires { IsStage stage.now }
+/// What the run of a stage needs whose parameters were seen.
+pub(crate) fn prepared_of(
+    alloc: Global,
+    stage: &Stage,
+    chosen: &Chosen,
+) -> Result<Prepared, NoMemory>
+    requires stage { IsStage stage.now }
+    requires good { IsGoodSeen stage.now chosen.now.params chosen.now.seen }
     ensures made { IfOk result (IsPrepared stage.now) }
+    ensures job { IfOk result (λ prepared. prepared.job ≡ job_with stage.now chosen.now.params) }
 {
-    let job = job_of(alloc, stage)?;
+    let job = job_of(alloc, stage, &chosen.seen.params)?;
     let roads = roads_of(alloc, stage)?;
     let lock = lock_path(alloc)?;
     Ok(Prepared { job, roads, lock })
 }
 
-// The job tracks no parameters yet.
-fn job_of(alloc: Global, stage: &Stage) -> Result<Job, NoMemory>
-    ensures made { IfOk result (λ job. job ≡ job_with stage.now []) }
+// The stage's job with these parameters, which count by value.
+fn job_of(alloc: Global, stage: &Stage, params: &ParamFiles) -> Result<Job, NoMemory>
+    ensures made { (ps : List AParamFile) → params.now ≡ canonical_files ps → IfOk result (λ job. job ≡ job_with stage.now ps) }
 {
     Ok(Job {
         stage: stage.name.copy(alloc)?,
         commands: stage.commands.copy(alloc)?,
         dir: stage.dir.copy(alloc)?,
         deps: dep_texts(alloc, stage.deps.as_slice())?,
-        params: ParamFiles::new(alloc),
+        params: params.copy(alloc)?,
         outs: out_texts(alloc, stage.made.as_slice())?,
     })
 }

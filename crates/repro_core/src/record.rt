@@ -10,14 +10,15 @@ ghost use Rattle.world_api.specs.Layout.{lock_path};
 ghost use Rattle.lock_files.specs.Book.{set};
 ghost use Rattle.lock_files.specs.Form.{IsEntry, IsBook};
 ghost use Rattle.change_check.specs.declared.seen.SeenPath.{SeenPath as ASeenPath};
-ghost use Rattle.repro_laws.specs.Stage.{dep_text, out_text, IsStage};
+ghost use Rattle.repro_laws.specs.Stage.{out_text, IsStage};
 ghost use Rattle.repro_laws.specs.Entries.{all_named, path_named};
 ghost use Rattle.repro_laws.specs.Moments.{IsNewLock};
-ghost use Rattle.repro_core.specs.Steps.{AreNamed, InRecord, record_kinds};
+ghost use Rattle.repro_core.specs.Steps.{AreNamed, IsGoodSeen, InRecord, record_kinds};
 ghost use Rattle.lock_files.specs.declared.entry.PathEntry.{PathEntry as APathEntry};
 
+use crate::choose::Chosen;
 use change_check::SeenPath;
-use dvc_base::{Fault, NoMemory, ParamFiles, Plain, Rel, Text};
+use dvc_base::{Fault, NoMemory, Plain, Rel, Text};
 use file_bytes::write_bytes;
 use file_hash::Named;
 use lock_files::{Entry, LockBook, PathEntries, PathEntry, print_lock};
@@ -25,25 +26,25 @@ use repro_laws::Stage;
 use std::alloc::Global;
 use world_api::Files;
 
-/// The entry of a run, by the names of what it has read and made.
+/// The entry of a run, by the names of what it has read and made. Its parameters are as they stand in their files.
 pub(crate) fn entry_of_run(
     alloc: Global,
     stage: &Stage,
-    deps: &[SeenPath],
+    chosen: &Chosen,
     outs: PathEntries,
 ) -> Result<Entry, NoMemory>
     requires stage { IsStage stage.now }
-    requires deps { (entries : List APathEntry) × (all_named deps.now ≡ Some entries) × AreNamed (map dep_text stage.now.deps) entries }
+    requires good { IsGoodSeen stage.now chosen.now.params chosen.now.seen }
     requires outs { AreNamed (map out_text stage.now.made) outs }
-    ensures deps { IfOk result (λ entry. all_named deps.now ≡ Some entry.deps) }
+    ensures deps { IfOk result (λ entry. all_named chosen.now.seen.deps ≡ Some entry.deps) }
     ensures others { IfOk result (λ entry.
-        (entry.commands ≡ stage.now.commands) × (entry.params ≡ []) × (entry.outs ≡ outs)) }
+        (entry.commands ≡ stage.now.commands) × (entry.params ≡ chosen.now.params) × (entry.outs ≡ outs)) }
     ensures form { IfOk result IsEntry }
 {
     Ok(Entry {
         commands: stage.commands.copy(alloc)?,
-        deps: path_entries(alloc, deps)?,
-        params: ParamFiles::new(alloc),
+        deps: path_entries(alloc, chosen.seen.deps.as_slice())?,
+        params: chosen.params.copy(alloc)?,
         outs,
     })
 }

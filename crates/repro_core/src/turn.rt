@@ -1,6 +1,6 @@
 // The turn of a stage: what stands there is named, a skip or a run is chosen, its lines are put, the outputs are put into the
 // cache, and a run is remembered once it has ended.
-ghost use Rattle.std.specs.Prelude.{◌≡◌, ◌++◌, ◌∷◌, [], true, false, IsTrue, IfOk, OnOk, IsErrOf, IsSome, Some, None};
+ghost use Rattle.std.specs.Prelude.{◌≡◌, ◌++◌, ◌∷◌, [], true, false, IsTrue, IfOk, OnOk, IsErrOf, IsSome, Some, None, Ok};
 ghost use Rattle.dvc_base.specs.Answer.{fault_in, GainsFront};
 ghost use Rattle.dvc_base.specs.Fault.{MayBe, IsHonest};
 ghost use Rattle.dvc_base.specs.declared.fault.Fault.TheVariants.{WorldFault, OutFault};
@@ -9,7 +9,7 @@ ghost use Rattle.world_api.specs.Outside.{tree_of, WithEffect};
 ghost use Rattle.world_api.specs.Writes.{CanWrite};
 ghost use Rattle.world_api.specs.Layout.{lock_path};
 ghost use Rattle.lock_files.specs.Form.{IsBook};
-ghost use Rattle.repro_laws.specs.Stage.{IsStage};
+ghost use Rattle.repro_laws.specs.Stage.{params_at, IsStage};
 ghost use Rattle.repro_laws.specs.Refusals.{see_fault};
 ghost use Rattle.repro_laws.specs.Entries.{seen_at};
 ghost use Rattle.repro_laws.specs.Due.{standing_of, choice_at, lines_of};
@@ -35,9 +35,10 @@ use world_api::{Sink, World};
 /// what stands there and nothing is forced, and else a run, after which the lock is published with the stage's entry. After
 /// both of them the cached outputs are whole in the cache.
 ///
-/// It answers `MissingDependency` with the first dependency, as they are written, that is missing, and `TooLarge` with the
-/// limit that a dependency or an output passes; of a run `NotFolder` with a file that stands at or above the stage's folder
-/// or above an output, `CommandFailed` with a code that isn't 0, and `MissingOutput` with the first output that is missing.
+/// It answers `MissingDependency` with the first dependency, as they are written, that is missing; `NoFile`, `Yaml`, `Schema`
+/// and `NoKey` of a file of parameters; `TooLarge` with the limit that one of these or an output passes; and of a run
+/// `NotFolder` with a file that stands at or above the stage's folder or above an output, `CommandFailed` with a code that
+/// isn't 0, and `MissingOutput` with the first output that is missing.
 /// `NotFolder` and `TooLarge` come too where a file or an object is in the way of the cache.
 #[inline(never)]
 pub fn run_stage<W: World, K: Sink>(
@@ -109,10 +110,13 @@ fn end_turn<W: World, K: Sink>(
     requires lock { IsTrue W.tells → lock_of (tree_of (W.history world.old)) ≡ Some lock.old }
     requires place { IsTrue W.tells → CanWrite lock_path (tree_of (W.history world.old)) }
     requires seen { IsTrue W.tells → see_fault stage.now (tree_of (W.history world.old)) ≡ None }
-    requires told { IsTrue W.tells → chosen.now.seen ≡ seen_at stage.now [] (tree_of (W.history world.old)) }
+    requires read { IsTrue W.tells → params_at stage.now (tree_of (W.history world.old)) ≡ Ok chosen.now.params }
+    requires told { IsTrue W.tells →
+        chosen.now.seen ≡ seen_at stage.now chosen.now.params (tree_of (W.history world.old)) }
     requires chosen { IsTrue W.tells →
-        choice_at flags stage.now [] (standing_of (tree_of (W.history world.old)) lock.old) ≡ (choice_if chosen.now.skips, None) }
-    requires good { IsGoodSeen stage.now chosen.now.seen }
+        choice_at flags stage.now chosen.now.params (standing_of (tree_of (W.history world.old)) lock.old)
+        ≡ (choice_if chosen.now.skips, None) }
+    requires good { IsGoodSeen stage.now chosen.now.params chosen.now.seen }
     ensures turned { WithEffect W.tells (W.history world.old) (λ effect. (choice : AChoice)
         × IfOk result (λ chosen. chosen ≡ choice)
         × Turned flags effect stage.now choice lock.old lock.new (fault_in result) (W.history world.old) (W.history world.new)) }
@@ -160,10 +164,13 @@ fn take_choice<W: World>(
     requires lock { IsTrue W.tells → lock_of (tree_of (W.history world.old)) ≡ Some lock.old }
     requires place { IsTrue W.tells → CanWrite lock_path (tree_of (W.history world.old)) }
     requires seen { IsTrue W.tells → see_fault stage.now (tree_of (W.history world.old)) ≡ None }
-    requires told { IsTrue W.tells → chosen.now.seen ≡ seen_at stage.now [] (tree_of (W.history world.old)) }
+    requires read { IsTrue W.tells → params_at stage.now (tree_of (W.history world.old)) ≡ Ok chosen.now.params }
+    requires told { IsTrue W.tells →
+        chosen.now.seen ≡ seen_at stage.now chosen.now.params (tree_of (W.history world.old)) }
     requires chosen { IsTrue W.tells →
-        choice_at flags stage.now [] (standing_of (tree_of (W.history world.old)) lock.old) ≡ (choice_if chosen.now.skips, None) }
-    requires good { IsGoodSeen stage.now chosen.now.seen }
+        choice_at flags stage.now chosen.now.params (standing_of (tree_of (W.history world.old)) lock.old)
+        ≡ (choice_if chosen.now.skips, None) }
+    requires good { IsGoodSeen stage.now chosen.now.params chosen.now.seen }
     ensures turned { WithEffect W.tells (W.history world.old) (λ effect.
         Turned flags effect stage.now (choice_if chosen.now.skips) lock.old lock.new (fault_in result)
         (W.history world.old) (W.history world.new)) }
@@ -180,14 +187,7 @@ fn take_choice<W: World>(
         keep_outputs(alloc, world, stage, chosen.seen.outs.as_slice())?;
         Ok(Choice::Skip)
     } else {
-        run_and_record(
-            alloc,
-            world,
-            lock,
-            stage,
-            flags,
-            chosen.seen.deps.as_slice(),
-        )?;
+        run_and_record(alloc, world, lock, stage, flags, chosen)?;
         Ok(Choice::Run)
     }
 }

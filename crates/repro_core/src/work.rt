@@ -41,11 +41,12 @@ pub(crate) fn run_anew<W: World>(
     requires seen { IsTrue W.tells → see_fault stage.now (tree_of (W.history world.old)) ≡ None }
     requires no_file { IsTrue W.tells → IsNoFileAt (tree_of (W.history world.old)) dvc_path }
     ensures made { WithEffect W.tells (W.history world.old) (λ effect.
-        MakesOuts effect stage.now (fault_in result) (W.history world.old).present (W.history world.new).present) }
+        MakesOuts effect stage.now prepared.now.job (fault_in result)
+        (W.history world.old).present (W.history world.new).present) }
     ensures there { IsTrue W.tells → OnOk result (first_of (λ o.
         refused_out stage.now.name o (value_at (tree_of (W.history world.new)) o.path)) stage.now.outs ≡ None) }
     ensures ran { IsTrue W.tells →
-        RunsJob stage.now (fault_in result) (W.history world.old).present (W.history world.new).present }
+        RunsJob prepared.now.job (fault_in result) (W.history world.old).present (W.history world.new).present }
     ensures lane_first { IsTrue W.tells →
         PassesFrom (IsLaneFirst stage.now) (W.history world.old) (W.history world.new) }
     ensures moments { IsTrue W.tells → PassesFrom (InWorks stage.now) (W.history world.old) (W.history world.new) }

@@ -28,7 +28,7 @@ returns-clause-ready g c told =
     let begun = g.F.Ground.history c.begin_write.new.files in
     let cleared = g.F.Ground.history c.clear_outputs.new.files in
     let made = g.F.Ground.history c.make_folders.new.files in
-    ready_at c.args.stage.now c.as_slice.result.now c.as_slice-2.result.now start begun cleared made c.make_folders.result c.requires.stage c.requires.kept c.requires.ordered (c.requires.seen told) c.as_slice.ensures.same (c.as_slice-2.ensures.same ∙ c.requires.prepared.roads) (c.begin_write.ensures.moments told) (c.clear_outputs.ensures.moments told) (c.make_folders.ensures.moments told) (c.make_folders.ensures.made told)
+    ready_at c.args.stage.now c.args.prepared.now.job c.as_slice.result.now c.as_slice-2.result.now start begun cleared made c.make_folders.result c.requires.stage c.requires.kept c.requires.ordered c.requires.prepared.job (c.requires.seen told) c.as_slice.ensures.same (c.as_slice-2.ensures.same ∙ c.requires.prepared.roads) (c.begin_write.ensures.moments told) (c.clear_outputs.ensures.moments told) (c.make_folders.ensures.moments told) (c.make_folders.ensures.made told)
 
 pub returns-clause-moments : goal.returns-clause-moments
 returns-clause-moments g c told =

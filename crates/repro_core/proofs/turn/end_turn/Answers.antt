@@ -30,7 +30,7 @@ returns-in_err-put_choice-clause-report g c told taken =
     let fault = c.in_err-put_choice.field-0.0 in
     let choice = c.choice_by.result in
     let exit = err_from_is_err_and c.from_residual.result c.from_residual.ensures.1 in
-    rw (exit.1, exit.2) (report_taken c.args.flags s choice None lock (Some fault) old old before after c.requires.stage (c.requires.chosen told ∙ ap (λ (x : Choice). (x, None)) (sym c.choice_by.ensures)) (c.requires.seen told) (gains_free fault before (lines_of s choice) after (put_free fault c.in_err-put_choice.ensures.kinds) (front_taken {T = Unit {0}} before (lines_of s choice) after (Err fault) (c.in_err-put_choice.ensures.taken taken))))
+    rw (exit.1, exit.2) (report_taken c.args.flags s choice None lock (Some fault) old old before after c.args.chosen.now.params (c.requires.read told) (c.requires.chosen told ∙ ap (λ (x : Choice). (x, None)) (sym c.choice_by.ensures)) (c.requires.seen told) (gains_free fault before (lines_of s choice) after (put_free fault c.in_err-put_choice.ensures.kinds) (front_taken {T = Unit {0}} before (lines_of s choice) after (Err fault) (c.in_err-put_choice.ensures.taken taken))))
 
 pub returns-clause-report : goal.returns-clause-report
 returns-clause-report g c told taken =
@@ -42,4 +42,4 @@ returns-clause-report g c told taken =
     let after = g.K.Sink.taken c.put_choice.new.out in
     let got = fault_in c.take_choice.result in
     let choice = c.choice_by.result in
-    report_taken c.args.flags s choice None lock got old now before after c.requires.stage (c.requires.chosen told ∙ ap (λ (x : Choice). (x, None)) (sym c.choice_by.ensures)) (c.requires.seen told) (gains_all got before (lines_of s choice) after (c.in_ok-put_choice.ensures.taken taken))
+    report_taken c.args.flags s choice None lock got old now before after c.args.chosen.now.params (c.requires.read told) (c.requires.chosen told ∙ ap (λ (x : Choice). (x, None)) (sym c.choice_by.ensures)) (c.requires.seen told) (gains_all got before (lines_of s choice) after (c.in_ok-put_choice.ensures.taken taken))

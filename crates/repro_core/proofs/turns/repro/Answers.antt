@@ -1,5 +1,5 @@
 -- Each turn adds to those so far; a refusal ends them, and so does the last stage.
-use Rattle.std.proofs.Common.{rules, ◌≡◌, ◌+◌, List, [], ◌∷◌, ◌++◌, take, drop, inl, refl, sym, ap, subst, ◌∙◌, Some, None, IsTrue}
+use Rattle.std.proofs.Common.{rules, ◌≡◌, ◌+◌, List, [], ◌++◌, take, drop, inl, refl, sym, ap, subst, ◌∙◌, Some, None, IsTrue}
 use Rattle.std.proofs.lemmas.List.{take_all}
 use Rattle.std.proofs.lemmas.Result.{err_from_is_err_and}
 use Rattle.world_api.specs.Effect.{Effect}

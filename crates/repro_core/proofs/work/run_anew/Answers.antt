@@ -17,7 +17,7 @@ returns-in_err-look_at_roads-clause-made g c told =
     let start = g.W.Ground.history c.args.world.now in
     let looked = g.W.Ground.history c.look_at_roads.new.files in
     let exit = err_from_is_err_and c.from_residual.result c.from_residual.ensures.1 in
-    rw (exit.1, exit.2) (way_due s c.as_slice.result.now start.present looked.present c.in_err-look_at_roads.field-0.0 (c.as_slice.ensures.same ∙ c.requires.prepared.roads) (c.in_err-look_at_roads.ensures.answer told))
+    rw (exit.1, exit.2) (way_due s c.args.prepared.now.job c.as_slice.result.now start.present looked.present c.in_err-look_at_roads.field-0.0 (c.as_slice.ensures.same ∙ c.requires.prepared.roads) (c.in_err-look_at_roads.ensures.answer told))
 
 pub returns-in_err-look_at_roads-clause-moments : goal.returns-in_err-look_at_roads-clause-moments
 returns-in_err-look_at_roads-clause-moments g c told =
@@ -50,8 +50,8 @@ returns-in_err-run_job-clause-made g c told =
     let ran = g.W.Ground.history c.run_job.new.world in
     let fault = c.in_err-run_job.field-0.0 in
     let exit = err_from_is_err_and c.from_residual-in_err-run_job.result c.from_residual-in_err-run_job.ensures.1 in
-    let at = ran_at s c.as_slice.result.now c.args.prepared.now.job start (g.W.Ground.history c.look_at_roads.new.files) ready ran (Some fault) (c.as_slice.ensures.same ∙ c.requires.prepared.roads) c.requires.prepared.job (c.look_at_roads.ensures.unchanged told) (c.in_ok-look_at_roads.ensures.answer told) (c.in-Ok.ensures.ready told) (c.make_ready.ensures.moments told) (c.run_job.ensures.moments told) (c.in_err-run_job.ensures.ran told) in
-    rw (exit.1, exit.2) (run_due s start.present ready.present ran.present fault c.requires.stage at.way at.ready at.work at.run c.in_err-run_job.ensures.kinds)
+    let at = ran_at s c.as_slice.result.now c.args.prepared.now.job start (g.W.Ground.history c.look_at_roads.new.files) ready ran (Some fault) (c.as_slice.ensures.same ∙ c.requires.prepared.roads) (c.look_at_roads.ensures.unchanged told) (c.in_ok-look_at_roads.ensures.answer told) (c.in-Ok.ensures.ready told) (c.make_ready.ensures.moments told) (c.run_job.ensures.moments told) (c.in_err-run_job.ensures.ran told) in
+    rw (exit.1, exit.2) (run_due s c.args.prepared.now.job start.present ready.present ran.present fault c.requires.stage c.requires.prepared.job at.way at.ready at.work at.run c.in_err-run_job.ensures.kinds)
 
 pub returns-in_err-run_job-clause-ran : goal.returns-in_err-run_job-clause-ran
 returns-in_err-run_job-clause-ran g c told =
@@ -61,8 +61,8 @@ returns-in_err-run_job-clause-ran g c told =
     let ran = g.W.Ground.history c.run_job.new.world in
     let fault = c.in_err-run_job.field-0.0 in
     let exit = err_from_is_err_and c.from_residual-in_err-run_job.result c.from_residual-in_err-run_job.ensures.1 in
-    let at = ran_at s c.as_slice.result.now c.args.prepared.now.job start (g.W.Ground.history c.look_at_roads.new.files) ready ran (Some fault) (c.as_slice.ensures.same ∙ c.requires.prepared.roads) c.requires.prepared.job (c.look_at_roads.ensures.unchanged told) (c.in_ok-look_at_roads.ensures.answer told) (c.in-Ok.ensures.ready told) (c.make_ready.ensures.moments told) (c.run_job.ensures.moments told) (c.in_err-run_job.ensures.ran told) in
-    rw (exit.1, exit.2) (ran_run s start.present ready.present ran.present fault at.work at.run c.in_err-run_job.ensures.kinds)
+    let at = ran_at s c.as_slice.result.now c.args.prepared.now.job start (g.W.Ground.history c.look_at_roads.new.files) ready ran (Some fault) (c.as_slice.ensures.same ∙ c.requires.prepared.roads) (c.look_at_roads.ensures.unchanged told) (c.in_ok-look_at_roads.ensures.answer told) (c.in-Ok.ensures.ready told) (c.make_ready.ensures.moments told) (c.run_job.ensures.moments told) (c.in_err-run_job.ensures.ran told) in
+    rw (exit.1, exit.2) (ran_run s c.args.prepared.now.job start.present ready.present ran.present fault at.work at.run c.in_err-run_job.ensures.kinds)
 
 pub returns-in_err-run_job-clause-moments : goal.returns-in_err-run_job-clause-moments
 returns-in_err-run_job-clause-moments g c told =
@@ -75,9 +75,9 @@ returns-clause-made g c told =
     let ready = g.W.Ground.history c.make_ready.new.files in
     let ran = g.W.Ground.history c.run_job.new.world in
     let got = fault_in c.look_at_made.result in
-    let at = ran_at s c.as_slice.result.now c.args.prepared.now.job start (g.W.Ground.history c.look_at_roads.new.files) ready ran None (c.as_slice.ensures.same ∙ c.requires.prepared.roads) c.requires.prepared.job (c.look_at_roads.ensures.unchanged told) (c.in_ok-look_at_roads.ensures.answer told) (c.in-Ok.ensures.ready told) (c.make_ready.ensures.moments told) (c.run_job.ensures.moments told) (c.in_ok-run_job.ensures.ran told) in
-    let due = look_due s start.present ready.present ran.present got c.requires.stage at.way at.ready at.work at.during at.run (c.look_at_made.ensures.answer told) in
-    subst (λ (h : History). IfSome start.present.aside.fixed.effect (λ effect. MakesOuts effect s got start.present h.present)) (sym (c.look_at_made.ensures.unchanged told)) due
+    let at = ran_at s c.as_slice.result.now c.args.prepared.now.job start (g.W.Ground.history c.look_at_roads.new.files) ready ran None (c.as_slice.ensures.same ∙ c.requires.prepared.roads) (c.look_at_roads.ensures.unchanged told) (c.in_ok-look_at_roads.ensures.answer told) (c.in-Ok.ensures.ready told) (c.make_ready.ensures.moments told) (c.run_job.ensures.moments told) (c.in_ok-run_job.ensures.ran told) in
+    let due = look_due s c.args.prepared.now.job start.present ready.present ran.present got c.requires.stage c.requires.prepared.job at.way at.ready at.work at.during at.run (c.look_at_made.ensures.answer told) in
+    subst (λ (h : History). IfSome start.present.aside.fixed.effect (λ effect. MakesOuts effect s c.args.prepared.now.job got start.present h.present)) (sym (c.look_at_made.ensures.unchanged told)) due
 
 pub returns-clause-ran : goal.returns-clause-ran
 returns-clause-ran g c told =
@@ -86,8 +86,8 @@ returns-clause-ran g c told =
     let ready = g.W.Ground.history c.make_ready.new.files in
     let ran = g.W.Ground.history c.run_job.new.world in
     let got = fault_in c.look_at_made.result in
-    let at = ran_at s c.as_slice.result.now c.args.prepared.now.job start (g.W.Ground.history c.look_at_roads.new.files) ready ran None (c.as_slice.ensures.same ∙ c.requires.prepared.roads) c.requires.prepared.job (c.look_at_roads.ensures.unchanged told) (c.in_ok-look_at_roads.ensures.answer told) (c.in-Ok.ensures.ready told) (c.make_ready.ensures.moments told) (c.run_job.ensures.moments told) (c.in_ok-run_job.ensures.ran told) in
-    subst (λ (h : History). RunsJob s got start.present h.present) (sym (c.look_at_made.ensures.unchanged told)) (ran_look s start.present ready.present ran.present got at.work at.run c.look_at_made.ensures.kinds)
+    let at = ran_at s c.as_slice.result.now c.args.prepared.now.job start (g.W.Ground.history c.look_at_roads.new.files) ready ran None (c.as_slice.ensures.same ∙ c.requires.prepared.roads) (c.look_at_roads.ensures.unchanged told) (c.in_ok-look_at_roads.ensures.answer told) (c.in-Ok.ensures.ready told) (c.make_ready.ensures.moments told) (c.run_job.ensures.moments told) (c.in_ok-run_job.ensures.ran told) in
+    subst (λ (h : History). RunsJob c.args.prepared.now.job got start.present h.present) (sym (c.look_at_made.ensures.unchanged told)) (ran_look s c.args.prepared.now.job start.present ready.present ran.present got at.work at.run c.look_at_made.ensures.kinds)
 
 pub returns-clause-moments : goal.returns-clause-moments
 returns-clause-moments g c told =

@@ -1,0 +1,24 @@
+-- The sort leaves them in order.
+use Rattle.std.proofs.Common.{◌≡◌, ◌∙◌, ℕ, List, map, ap, Bor, rules}
+use Rattle.std.proofs.lemmas.List.{take_all}
+use Rattle.std.proofs.lemmas.List.Sorted.{answers_always}
+use Rattle.dvc_base.specs.declared.node.Pair.{Pair}
+use Rattle.yaml_nodes.specs.Part.{key_of}
+use Rattle.lock_files.specs.Order.{in_order}
+use Rattle.lock_files.proofs.SortLemmas.{weak, order_of_sort, map_in_order}
+use Rattle.repro_core.proofs.tracked.sorted_pairs.Goals as goal
+
+abbrev item : Bor Pair → Pair
+item x = x.now
+
+abbrev key : Bor Pair → List ℕ
+key x = key_of x.now
+
+pub returns : goal.returns
+returns c =
+    let keys = answers_always _ _ _ (λ f a r next called. search rules) in
+    let before = c.loop-pair.sorted.items in
+    let all = c.args.pairs.now in
+    let named : map item before ≡ all = c.loop-pair.invariant ∙ take_all c.loop-pair.pair-index all c.loop-pair-test.false in
+    let sorted = order_of_sort key before c.sort_by.new.self.items (c.in_ok-sort_by.ensures.sorted _ (weak key) keys) (c.sort_by.ensures.stable _ (weak key) keys) in
+    record { exact = ap (map item) sorted ∙ map_in_order item key_of before ∙ ap (in_order key_of) named }
