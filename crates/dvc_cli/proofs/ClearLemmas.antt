@@ -1,12 +1,11 @@
--- What is so of stages of which the graph refuses nothing, and turns ask nothing more.
+-- What is so of stages of which the graph refuses nothing.
 --     none_both, none_mapped, none_found     of several refusals none is due
 --     IsClear s         a stage by itself: its texts are paths, which lie apart from what the tool keeps
 --     AreClear ss       all of them: no two outputs overlap, and there is no cycle
 --     are_clear         such are the stages of a plan
-use Rattle.std.proofs.Common.{◌≡◌, ℕ, Bool, true, false, not, ◌&&◌, ◌==◌, cond, List, [], ◌∷◌, ◌++◌, length, map, Option, Some, None, Result, Ok, Err, refl, ap, subst, ◌∙◌, arith}
+use Rattle.std.proofs.Common.{◌≡◌, ℕ, Bool, true, false, cond, List, [], ◌∷◌, ◌++◌, map, Option, Some, None, Result, Ok, Err, refl, ap, subst, ◌∙◌}
 use Rattle.std.specs.Option.{option_or, option_map}
-use Rattle.std.specs.List.{AllByRecursion, list_all, find, flat_map}
-use Rattle.std.proofs.lemmas.Bool.{and_parts, not-true, eqb-true}
+use Rattle.std.specs.List.{AllByRecursion, find, flat_map}
 use Rattle.std.proofs.lemmas.List.{map-append}
 use Rattle.dvc_base.specs.Path.{Path, under, overlap}
 use Rattle.dvc_base.specs.Join.{join}
@@ -16,18 +15,16 @@ use Rattle.dvc_base.specs.declared.path.PathFault.{PathFault}
 use Rattle.world_api.specs.Effect.{path_or_root, path_from}
 use Rattle.world_api.specs.Layout.{dvc_path, lock_path, yaml_path}
 use Rattle.template_expand.specs.declared.stage.Out.{Out as WrittenOut}
-use Rattle.template_expand.specs.declared.stage.ParamWant.{ParamWant}
 use Rattle.template_expand.specs.declared.stage.Stage.{Stage as Written}
 use Rattle.stage_graph.specs.Clash.{clash_of, clash_with, clash_after, clash_fault, made_fault}
 use Rattle.stage_graph.specs.Cycle.{cycle_fault}
 use Rattle.stage_graph.specs.Fault.{first_of}
-use Rattle.stage_graph.specs.Graph.{graph_fault}
-use Rattle.stage_graph.specs.Kept.{tool_paths, file_paths, near_fault, name_fault, dir_fault, tool_fault, file_fault, reserved_fault}
+use Rattle.stage_graph.specs.Kept.{tool_paths, file_paths, near_fault, name_fault, dir_fault, var_fault, tool_fault, file_fault, reserved_fault}
 use Rattle.stage_graph.specs.Paths.{stage_outs, needs, stage_owners, owners_of_outs, owners, owner_paths}
 use Rattle.stage_graph.specs.Texts.{join_fault, text_fault, out_texts, need_texts, outside_fault}
 use Rattle.stage_graph.specs.declared.owner.Owner.{Owner}
 use Rattle.repro_laws.proofs.ListLemmas.{each_from, each_first, each_second}
-use Rattle.dvc_cli.specs.Plan.{all_outs, is_plain, turns_fault, plan_fault}
+use Rattle.dvc_cli.specs.Plan.{all_outs, plan_fault}
 use Rattle.dvc_cli.proofs.PairLemmas.{AllPairs, pairs_map, each_of_flat}
 use Rattle.dvc_cli.proofs.SchemaLemmas.{IsWritten}
 
@@ -72,23 +69,17 @@ IsNamed dir text = join dir text ≡ Ok (path_from dir text)
 
 pub record IsClear (s : Written) : Type 0 where
   pub written : IsWritten s
-  pub thawed : s.frozen ≡ false
-  pub no_params : s.params ≡ []
   pub deps : AllByRecursion (IsNamed s.dir) s.deps
   pub outs : AllByRecursion (λ out. IsNamed s.dir out.path) s.outs
   pub dir_dvc : under dvc_path s.dir ≡ false
   pub dir_lock : under lock_path s.dir ≡ false
-  pub reads : AllByRecursion IsFar (map (path_from s.dir) s.deps)
+  pub reads : AllByRecursion IsFar (needs s)
   pub makes : AllByRecursion IsFar (stage_outs s)
   pub yaml : AllByRecursion (λ p. overlap yaml_path p ≡ false) (stage_outs s)
 
 named : (text : List ℕ) (r : Result Path PathFault) → join_fault text r ≡ None → r ≡ Ok (path_or_root r)
 named text (Ok p) h = refl
 named text (Err why) h = absurd (some_is_none (f.Outside text why) h)
-
-no_wants : (wants : List ParamWant) → (length wants == 0) ≡ true → wants ≡ []
-no_wants [] h = refl
-no_wants (want ∷ wants) h = let e : length (want ∷ wants) ≡ 0 = eqb-true (length (want ∷ wants)) 0 h in absurd (omega (arith, e))
 
 far : (p : Path) → near_fault tool_paths p ≡ None → IsFar p
 far p h =
@@ -99,24 +90,19 @@ far_yaml : (p : Path) → near_fault (file_paths [] []) p ≡ None → overlap y
 far_yaml p h =
     (none_found (λ q. overlap q p) (file_paths [] []) (none_mapped (f.Reserved p) (find (λ q. overlap q p) (file_paths [] [])) h)).0
 
-clear : (s : Written) → IsWritten s → is_plain s ≡ true → out_texts s ≡ None → need_texts s ≡ None → dir_fault s ≡ None → first_of (near_fault tool_paths) (needs s) ≡ None →
+clear : (s : Written) → IsWritten s → out_texts s ≡ None → need_texts s ≡ None → dir_fault s ≡ None → first_of (near_fault tool_paths) (needs s) ≡ None →
     AllByRecursion (λ p. near_fault tool_paths p ≡ None) (stage_outs s) → AllByRecursion (λ p. near_fault (file_paths [] []) p ≡ None) (stage_outs s) → IsClear s
-clear s written plain outs need dir read makes files =
-    let parts = and_parts (not s.frozen) (length s.params == 0) plain in
+clear s written outs need dir read makes files =
     let texts = none_both (first_of (text_fault s.dir) s.deps) (first_of (λ want. text_fault s.dir want.file) s.params) need in
     let around = none_found (λ kept. under kept s.dir) tool_paths (none_mapped (f.Reserved s.dir) (find (λ kept. under kept s.dir) tool_paths) dir) in
-    let all = none_each (near_fault tool_paths) (needs s) read in
     record {
       written = written;
-      thawed = not-true s.frozen parts.0;
-      no_params = no_wants s.params parts.1;
       deps = each_from (λ t. text_fault s.dir t ≡ None) (IsNamed s.dir) s.deps (λ t h. named t (join s.dir t) h) (none_each (text_fault s.dir) s.deps texts.0);
       outs = each_from (λ (out : WrittenOut). text_fault s.dir out.path ≡ None) (λ (out : WrittenOut). IsNamed s.dir out.path) s.outs (λ out h. named out.path (join s.dir out.path) h)
           (none_each (λ (out : WrittenOut). text_fault s.dir out.path) s.outs outs);
       dir_dvc = around.0;
       dir_lock = around.1.0;
-      reads = each_from (λ p. near_fault tool_paths p ≡ None) IsFar (map (path_from s.dir) s.deps) far
-          (each_first (λ p. near_fault tool_paths p ≡ None) (map (path_from s.dir) s.deps) (map (λ (want : ParamWant). path_from s.dir want.file) s.params) all);
+      reads = each_from (λ p. near_fault tool_paths p ≡ None) IsFar (needs s) far (none_each (near_fault tool_paths) (needs s) read);
       makes = each_from (λ p. near_fault tool_paths p ≡ None) IsFar (stage_outs s) far makes;
       yaml = each_from (λ p. near_fault (file_paths [] []) p ≡ None) (λ p. overlap yaml_path p ≡ false) (stage_outs s) far_yaml files;
     }
@@ -171,32 +157,23 @@ clash_pairs earlier (o ∷ later) h =
     let back = without_last earlier o later rest.0 in
     ((here, back.0), (back.1, rest.1))
 
-all_clear : (ss : List Written) → AllByRecursion IsWritten ss → AllByRecursion (λ s. is_plain s ≡ true) ss → AllByRecursion (λ s. out_texts s ≡ None) ss → AllByRecursion (λ s. need_texts s ≡ None) ss →
+all_clear : (ss : List Written) → AllByRecursion IsWritten ss → AllByRecursion (λ s. out_texts s ≡ None) ss → AllByRecursion (λ s. need_texts s ≡ None) ss →
     AllByRecursion (λ s. dir_fault s ≡ None) ss → AllByRecursion (λ s. first_of (near_fault tool_paths) (needs s) ≡ None) ss →
     AllByRecursion (λ s. AllByRecursion (λ p. near_fault tool_paths p ≡ None) (stage_outs s)) ss →
     AllByRecursion (λ s. AllByRecursion (λ p. near_fault (file_paths [] []) p ≡ None) (stage_outs s)) ss → AllByRecursion IsClear ss
-all_clear [] a b c d e g h i = tt
-all_clear (s ∷ ss) a b c d e g h i = (clear s a.0 b.0 c.0 d.0 e.0 g.0 h.0 i.0, all_clear ss a.1 b.1 c.1 d.1 e.1 g.1 h.1 i.1)
+all_clear [] a c d e g h i = tt
+all_clear (s ∷ ss) a c d e g h i = (clear s a.0 c.0 d.0 e.0 g.0 h.0 i.0, all_clear ss a.1 c.1 d.1 e.1 g.1 h.1 i.1)
 
-each_plain : (ss : List Written) → list_all is_plain ss ≡ true → AllByRecursion (λ s. is_plain s ≡ true) ss
-each_plain [] h = tt
-each_plain (s ∷ ss) h = let parts = and_parts (is_plain s) (list_all is_plain ss) h in (parts.0, each_plain ss parts.1)
-
-no_turn_fault : (b : Bool) → cond b None (Some (f.NotBuilt yaml_path)) ≡ None → b ≡ true
-no_turn_fault true h = refl
-no_turn_fault false h = absurd (some_is_none (f.NotBuilt yaml_path) h)
-
-pub are_clear : (more : Bool) (ss : List Written) → AllByRecursion IsWritten ss → plan_fault more ss ≡ None → AreClear ss
-are_clear more ss written h =
+pub are_clear : (ss : List Written) → AllByRecursion IsWritten ss → plan_fault ss ≡ None → AreClear ss
+are_clear ss written h =
+    let vars : List Path = [] in
     let a : Option Fault = outside_fault ss [] in
     let owned : List Path = owner_paths (owners ss []) in
-    let b : Option Fault = reserved_fault owned ss [] [] [] in
+    let b : Option Fault = reserved_fault owned ss [] vars [] in
     let c : Option Fault = clash_fault (owners ss []) in
-    let d : Option Fault = made_fault ss [] in
+    let d : Option Fault = made_fault ss vars in
     let e : Option Fault = cycle_fault ss in
-    let split = none_both (graph_fault ss [] [] []) (turns_fault more ss) h in
-    let plain = and_parts (not more) (list_all is_plain ss) (no_turn_fault (not more && list_all is_plain ss) split.1) in
-    let pa = none_both a (option_or b (option_or c (option_or d (option_or e None)))) split.0 in
+    let pa = none_both a (option_or b (option_or c (option_or d (option_or e None)))) h in
     let pb = none_both b (option_or c (option_or d (option_or e None))) pa.1 in
     let pc = none_both c (option_or d (option_or e None)) pb.1 in
     let pd = none_both d (option_or e None) pc.1 in
@@ -204,15 +181,16 @@ are_clear more ss written h =
     let texts = none_both (first_of out_texts ss) (first_of need_texts ss) pa.0 in
     let names : Option Fault = first_of name_fault owned in
     let dirs : Option Fault = first_of dir_fault ss in
-    let tool = none_both (tool_fault owned ss) (option_or (file_fault [] [] owned) (option_or names (option_or dirs None))) pb.0 in
-    let files = none_both (file_fault [] [] owned) (option_or names (option_or dirs None)) tool.1 in
-    let named = none_both names (option_or dirs None) files.1 in
-    let dir = none_both dirs None named.1 in
+    let read : Option Fault = first_of (var_fault []) vars in
+    let tool = none_both (tool_fault owned ss) (option_or (file_fault [] [] owned) (option_or names (option_or dirs read))) pb.0 in
+    let files = none_both (file_fault [] [] owned) (option_or names (option_or dirs read)) tool.1 in
+    let named = none_both names (option_or dirs read) files.1 in
+    let dir = none_both dirs read named.1 in
     let owner = none_both (first_of (near_fault tool_paths) owned) (first_of (λ s. first_of (near_fault tool_paths) (needs s)) ss) tool.0 in
     let makes = subst (AllByRecursion (λ (p : Path). near_fault tool_paths p ≡ None)) (all_paths ss) (none_each (near_fault tool_paths) owned owner.0) in
     let kept = subst (AllByRecursion (λ (p : Path). near_fault (file_paths [] []) p ≡ None)) (all_paths ss) (none_each (near_fault (file_paths [] [])) owned files.0) in
     record {
-      each = all_clear ss written (each_plain ss plain.1) (none_each out_texts ss texts.0) (none_each need_texts ss texts.1) (none_each dir_fault ss dir.0)
+      each = all_clear ss written (none_each out_texts ss texts.0) (none_each need_texts ss texts.1) (none_each dir_fault ss dir.0)
           (none_each (λ (s : Written). first_of (near_fault tool_paths) (needs s)) ss owner.1)
           (each_of_flat stage_outs (λ p. near_fault tool_paths p ≡ None) ss makes)
           (each_of_flat stage_outs (λ p. near_fault (file_paths [] []) p ≡ None) ss kept);

@@ -2,6 +2,7 @@
 --     are_distinct                no two of some texts are equal
 --     text_swap                   equality of texts, the other way round
 --     among-more, distinct-more   one text more
+--     formed                      the same of texts that stand once, as a lock has them
 --     rising                      keys that stand once rise in the order by them
 use Rattle.std.proofs.Common.{◌≡◌, ℕ, Bool, true, false, not, ◌&&◌, ◌||◌, List, [], ◌∷◌, ◌++◌, map, refl, sym, ap, ◌∙◌, bytes_eq, inl, inr}
 use Rattle.std.specs.List.{AllByRecursion}
@@ -58,12 +59,15 @@ new_more before text (t ∷ texts) out h =
       new_more before text texts out.1 parts.1,
     )
 
-formed : (before texts : List (List ℕ)) → AreNew before texts → are_distinct texts ≡ true → form.are_distinct before texts ≡ true
-formed before [] out h = refl
-formed before (text ∷ texts) out h =
+formed_behind : (before texts : List (List ℕ)) → AreNew before texts → are_distinct texts ≡ true → form.are_distinct before texts ≡ true
+formed_behind before [] out h = refl
+formed_behind before (text ∷ texts) out h =
     let parts = and_parts (not (is_among texts text)) (are_distinct texts) h in
     and_from (not (is_among before text)) (form.are_distinct (before ++ text ∷ []) texts) (not_from_false (is_among before text) out.0)
-    (formed (before ++ text ∷ []) texts (new_more before text texts out.1 (not-true (is_among texts text) parts.0)) parts.1)
+    (formed_behind (before ++ text ∷ []) texts (new_more before text texts out.1 (not-true (is_among texts text) parts.0)) parts.1)
+
+pub formed : (texts : List (List ℕ)) → are_distinct texts ≡ true → form.are_distinct [] texts ≡ true
+formed texts h = formed_behind [] texts (all_new texts) h
 
 pub rising : {A : Type 0} (key : A → List ℕ) (xs : List A) → are_distinct (map key xs) ≡ true → is_rising (map key (in_order key xs)) ≡ true
-rising key xs h = rising_of_distinct key xs (formed [] (map key xs) (all_new (map key xs)) h)
+rising key xs h = rising_of_distinct key xs (formed (map key xs) h)

@@ -12,8 +12,9 @@
 --     pair_at                    and of two of them
 --     each_picked, pairs_picked  of the members at some places, each of which is named once
 --     each_back, any_picked      where each place is named
-use Rattle.std.proofs.Common.{◌≡◌, ℕ, zero, suc, ◌<◌, Bool, true, false, ◌==◌, List, [], ◌∷◌, ◌++◌, length, map, Option, Some, None, refl, sym, ap, subst, ◌∙◌, inl, inr, slice_get}
-use Rattle.std.specs.List.{AllByRecursion, list_any, filter_map, flat_map, cons_option}
+--     each_kept, pairs_kept, any_kept     of the members that a test keeps
+use Rattle.std.proofs.Common.{◌≡◌, ℕ, zero, suc, ◌<◌, Bool, true, false, ◌&&◌, ◌||◌, ◌==◌, cond, List, [], ◌∷◌, ◌++◌, length, map, Option, Some, None, refl, sym, ap, subst, ◌∙◌, inl, inr, slice_get}
+use Rattle.std.specs.List.{AllByRecursion, list_any, filter, filter_map, flat_map, cons_option}
 use Rattle.std.proofs.lemmas.Bool.{cases_Bool, cond-true, cond-false, or_cases, both_ways, false≢true, eqb-true, eq-eqb, or_left, or_right}
 use Rattle.std.proofs.lemmas.Option.{slice_get_within}
 use Rattle.lock_files.specs.Order.{is_less, put_in, in_order}
@@ -134,6 +135,33 @@ between_turned R turn xs (y ∷ ys) h = (
   each_from (λ x. AllByRecursion (R x) (y ∷ ys)) (λ x. R y x) xs (λ x k. turn x y k.0) h,
   between_turned R turn xs ys (each_from (λ x. AllByRecursion (R x) (y ∷ ys)) (λ x. AllByRecursion (R x) ys) xs (λ x k. k.1) h),
 )
+
+-- ---- the members that a test keeps
+
+module _ {A : Type 0} (test : A → Bool) where
+  each_if : (P : A → Type 0) (b : Bool) (x : A) (rest : List A) → P x → AllByRecursion P rest → AllByRecursion P (cond b (x ∷ rest) rest)
+  each_if P true x rest here later = (here, later)
+  each_if P false x rest here later = later
+
+  pub each_kept : (P : A → Type 0) (xs : List A) → AllByRecursion P xs → AllByRecursion P (filter test xs)
+  each_kept P [] h = tt
+  each_kept P (x ∷ xs) h = each_if P (test x) x (filter test xs) h.0 (each_kept P xs h.1)
+
+  pairs_if : (R : A → A → Type 0) (b : Bool) (x : A) (rest : List A) → AllByRecursion (R x) rest → AllPairs R rest → AllPairs R (cond b (x ∷ rest) rest)
+  pairs_if R true x rest here later = (here, later)
+  pairs_if R false x rest here later = later
+
+  pub pairs_kept : (R : A → A → Type 0) (xs : List A) → AllPairs R xs → AllPairs R (filter test xs)
+  pairs_kept R [] h = tt
+  pairs_kept R (x ∷ xs) h = pairs_if R (test x) x (filter test xs) (each_kept (R x) xs h.0) (pairs_kept R xs h.1)
+
+  any_if : (u : A → Bool) (b : Bool) (x : A) (rest : List A) → list_any u (cond b (x ∷ rest) rest) ≡ ((b && u x) || list_any u rest)
+  any_if u true x rest = refl
+  any_if u false x rest = refl
+
+  pub any_kept : (u : A → Bool) (xs : List A) → list_any u (filter test xs) ≡ list_any (λ x. test x && u x) xs
+  any_kept u [] = refl
+  any_kept u (x ∷ xs) = any_if u (test x) x (filter test xs) ∙ ap (λ (b : Bool). (test x && u x) || b) (any_kept u xs)
 
 -- ---- places
 

@@ -1,14 +1,14 @@
 -- What is so of the stages of a `dvc.yaml` in which the schema refuses nothing.
---     IsWritten s               the stage has a command, and no dependency stands twice
+--     IsWritten s               the stage has a command, and no dependency, file of parameters or key of one stands twice
 --     good_stages               such are the stages of a file
 --     few_stages                and there are few of them
 --     stage_names               no two of them share a name, where no two keys of a mapping are one
 use Rattle.std.proofs.Common.{◌≡◌, ℕ, zero, suc, ◌+◌, ◌<◌, ◌≤◌, Bool, true, false, not, ◌&&◌, ◌||◌, ◌==◌, List, [], ◌∷◌, ◌++◌, length, take, map, refl, sym, ap, ◌∙◌, subst, arith, bytes_eq, codes, cond, inl, inr, Option, Some, None, Result, Ok, Err, nat_lt}
 use Rattle.std.specs.Prelude.{fold}
 use Rattle.std.specs.Option.{option_or}
-use Rattle.std.specs.List.{AllByRecursion, list_any}
+use Rattle.std.specs.List.{AllByRecursion, list_any, flat_map}
 use Rattle.std.proofs.lemmas.Bool.{and_parts, and_from, or_from, both_ways, false≢true, false_from_ne_true, not-true, cases_Bool, cond-true, cond-false, ltb-false}
-use Rattle.std.proofs.lemmas.List.{take_all, length-map}
+use Rattle.std.proofs.lemmas.List.{take_all, length-map, map-append}
 use Rattle.std.proofs.lemmas.List.Folds.{list_any-append}
 use Rattle.std.proofs.lemmas.Slice.Eq.{bytes_eq-Decides}
 use Rattle.dvc_base.specs.declared.node.Node.{Node, out-Node}
@@ -20,7 +20,9 @@ use Rattle.yaml_nodes.specs.Part as part
 use Rattle.yaml_print.specs.Print as print
 use Rattle.yaml_print.specs.Sound.{Each, Inside, are_new, IsProper, IsSound, IsPrintable}
 use Rattle.template_expand.specs.Node.{Layer, key_of, value_of, pairs_of, items_of, has_key, value_at}
-use Rattle.template_expand.specs.Params.{with_text, each_once, texts_of}
+use Rattle.template_expand.specs.Params.{with_text, each_once, texts_of, item_wants, no_want, joined, with_file, with_want}
+use Rattle.template_expand.specs.declared.stage.ParamWant.{ParamWant}
+use Rattle.template_expand.proofs.WantLemmas.{files_with_want}
 use Rattle.template_expand.specs.Refusal.{first_in, unless, schema_at}
 use Rattle.template_expand.specs.Schema.{are_commands, are_texts, value_fault, is_template_key, has_template, path_fault, is_stage_name, keys_fault, named_fault, body_fault, stage_fault, limited_fault, stages_fault, top_fault, file_fault, fault_in}
 use Rattle.template_expand.specs.Stages.{commands_of, stage_of, stages_in}
@@ -117,11 +119,65 @@ all_once found (text ∷ texts) h = all_once (with_text found text) texts (with_
 once-distinct : (texts : List (List ℕ)) → are_distinct (each_once texts) ≡ true
 once-distinct texts = all_once [] texts refl
 
+-- ---- files of parameters
+
+abbrev pub files : List ParamWant → List (List ℕ)
+files ws = map (λ (w : ParamWant). w.file) ws
+
+among_files : (wants : List ParamWant) (file : List ℕ) → is_among (files wants) file ≡ list_any (λ (want : ParamWant). bytes_eq file want.file) wants
+among_files [] file = refl
+among_files (want ∷ wants) file =
+    ap (λ (b : Bool). b || is_among (files wants) file) (text_swap want.file file)
+    ∙ ap (λ (b : Bool). bytes_eq file want.file || b) (among_files wants file)
+
+with_file-distinct : (wants : List ParamWant) (file : List ℕ) → are_distinct (files wants) ≡ true → are_distinct (files (with_file wants file)) ≡ true
+with_file-distinct wants file h =
+    let met : Bool = list_any (λ (want : ParamWant). bytes_eq file want.file) wants in
+    elim (cases_Bool met) [
+      | inl there ↦ ap (λ (ws : List ParamWant). are_distinct (files ws)) (cond-true met wants (wants ++ no_want file ∷ []) there) ∙ h
+      | inr new ↦
+          ap (λ (ws : List ParamWant). are_distinct (files ws)) (cond-false met wants (wants ++ no_want file ∷ []) new)
+          ∙ ap are_distinct (map-append (λ (want : ParamWant). want.file) wants (no_want file ∷ []))
+          ∙ distinct-more (files wants) file h (among_files wants file ∙ new)
+    ]
+
+all_files : (found wants : List ParamWant) → are_distinct (files found) ≡ true → are_distinct (files (fold with_want found wants)) ≡ true
+all_files found [] h = h
+all_files found (want ∷ wants) h =
+    all_files (with_want found want) wants (ap are_distinct (files_with_want found want) ∙ with_file-distinct found want.file h)
+
+abbrev pub HasKeysOnce : ParamWant → Type 0
+HasKeysOnce want = are_distinct want.keys ≡ true
+
+joined-once : (b : Bool) (have want : ParamWant) → HasKeysOnce have →
+    HasKeysOnce (cond b (record have { keys = []; all = true }) (record have { keys = fold with_text have.keys want.keys }))
+joined-once true have want h = refl
+joined-once false have want h = all_once have.keys want.keys h
+
+keys_with_want : (wants : List ParamWant) (want : ParamWant) → AllByRecursion HasKeysOnce wants → AllByRecursion HasKeysOnce (with_want wants want)
+keys_with_want [] want h = (joined-once (want.all) (no_want want.file) want refl, tt)
+keys_with_want (have ∷ wants) want h =
+    let same : Bool = bytes_eq want.file have.file in
+    elim (cases_Bool same) [
+      | inl here ↦
+          subst (AllByRecursion HasKeysOnce) (sym (cond-true same (joined have want ∷ wants) (have ∷ with_want wants want) here))
+          (joined-once (have.all || want.all) have want h.0, h.1)
+      | inr later ↦
+          subst (AllByRecursion HasKeysOnce) (sym (cond-false same (joined have want ∷ wants) (have ∷ with_want wants want) later))
+          (h.0, keys_with_want wants want h.1)
+    ]
+
+all_keys : (found wants : List ParamWant) → AllByRecursion HasKeysOnce found → AllByRecursion HasKeysOnce (fold with_want found wants)
+all_keys found [] h = h
+all_keys found (want ∷ wants) h = all_keys (with_want found want) wants (keys_with_want found want h)
+
 -- ---- a stage
 
 pub record IsWritten (s : Written) : Type 0 where
   pub commands : 0 < length s.commands
   pub deps : are_distinct s.deps ≡ true
+  pub param_files : are_distinct (files s.params) ≡ true
+  pub param_keys : AllByRecursion HasKeysOnce s.params
 
 good_keys : (name : List ℕ) (pairs : List Pair) → keys_fault name pairs ≡ None → 0 < length (commands_of (value_at (codes "cmd") pairs))
 good_keys name pairs h =
@@ -150,10 +206,14 @@ good_body name (Node-F.Text t) h = absurd (some_fault (schema_at (codes "stages"
 good_body name (Node-F.Items items) h = absurd (some_fault (schema_at (codes "stages" ∷ name ∷ [])) h)
 
 good_stage : (p : Pair) → stage_fault p ≡ None → IsWritten (stage_of p)
-good_stage p h = record {
-  commands = good_body (key_of p) (value_of p) h;
-  deps = once-distinct (texts_of (items_of (value_at (codes "deps") (pairs_of (value_of p)))));
-}
+good_stage p h =
+    let wants : List ParamWant = flat_map (λ item. item_wants (out-Node item)) (items_of (value_at (codes "params") (pairs_of (value_of p)))) in
+    record {
+      commands = good_body (key_of p) (value_of p) h;
+      deps = once-distinct (texts_of (items_of (value_at (codes "deps") (pairs_of (value_of p)))));
+      param_files = all_files [] wants refl;
+      param_keys = all_keys [] wants tt;
+    }
 
 all_good : (ps : List Pair) → first_in stage_fault ps ≡ None → AllByRecursion IsWritten (map stage_of ps)
 all_good [] h = tt
@@ -243,10 +303,10 @@ few_stages root ss h =
 -- ---- names
 
 -- no key stands twice
-abbrev HasKeysOnce : Layer → Type 0
-HasKeysOnce v = are_new [] (pairs_of v) ≡ true
+abbrev KeysStandOnce : Layer → Type 0
+KeysStandOnce v = are_new [] (pairs_of v) ≡ true
 
-proper_keys : (v : Layer) → IsProper v → HasKeysOnce v
+proper_keys : (v : Layer) → IsProper v → KeysStandOnce v
 proper_keys (Node-F.Pairs ps) h = h
 proper_keys Node-F.Null h = refl
 proper_keys (Node-F.Bool b) h = refl
@@ -255,20 +315,20 @@ proper_keys (Node-F.Decimal t) h = refl
 proper_keys (Node-F.Text t) h = refl
 proper_keys (Node-F.Items items) h = refl
 
-sound_keys : (d : ℕ) (v : Node) → IsSound d v → HasKeysOnce (out-Node v)
+sound_keys : (d : ℕ) (v : Node) → IsSound d v → KeysStandOnce (out-Node v)
 unfolding IsSound
 sound_keys zero v h = proper_keys (out-Node v) h.0
 sound_keys (suc d) v h = proper_keys (out-Node v) h.0
 
-keys_at : (d : ℕ) (key : List ℕ) (ps : List Pair) → Each (λ p. IsSound d (print.value_of p)) ps → HasKeysOnce (value_at key ps)
+keys_at : (d : ℕ) (key : List ℕ) (ps : List Pair) → Each (λ p. IsSound d (print.value_of p)) ps → KeysStandOnce (value_at key ps)
 keys_at d key [] h = refl
 keys_at d key (p ∷ ps) h =
     elim (cases_Bool (bytes_eq (key_of p) key)) [
-      | inl here ↦ subst HasKeysOnce (sym (value_here key p ps here)) (sound_keys d (print.value_of p) h.0)
-      | inr later ↦ subst HasKeysOnce (sym (value_later key p ps later)) (keys_at d key ps h.1)
+      | inl here ↦ subst KeysStandOnce (sym (value_here key p ps here)) (sound_keys d (print.value_of p) h.0)
+      | inr later ↦ subst KeysStandOnce (sym (value_later key p ps later)) (keys_at d key ps h.1)
     ]
 
-keys_inside : (d : ℕ) (key : List ℕ) (v : Layer) → Inside (IsSound d) v → HasKeysOnce (value_at key (pairs_of v))
+keys_inside : (d : ℕ) (key : List ℕ) (v : Layer) → Inside (IsSound d) v → KeysStandOnce (value_at key (pairs_of v))
 keys_inside d key (Node-F.Pairs ps) h = keys_at d key ps h
 keys_inside d key Node-F.Null h = refl
 keys_inside d key (Node-F.Bool b) h = refl
@@ -277,11 +337,11 @@ keys_inside d key (Node-F.Decimal t) h = refl
 keys_inside d key (Node-F.Text t) h = refl
 keys_inside d key (Node-F.Items items) h = refl
 
-keys_of_sound : (d : ℕ) (key : List ℕ) (v : Node) → IsSound (suc d) v → HasKeysOnce (value_at key (pairs_of (out-Node v)))
+keys_of_sound : (d : ℕ) (key : List ℕ) (v : Node) → IsSound (suc d) v → KeysStandOnce (value_at key (pairs_of (out-Node v)))
 unfolding IsSound
 keys_of_sound d key v h = keys_inside d key (out-Node v) h.1
 
-root_keys : (key : List ℕ) (v : Node) → IsPrintable v → HasKeysOnce (value_at key (pairs_of (out-Node v)))
+root_keys : (key : List ℕ) (v : Node) → IsPrintable v → KeysStandOnce (value_at key (pairs_of (out-Node v)))
 root_keys key v h = keys_of_sound 63 key v h
 
 none_later : (k : List ℕ) (found ps : List Pair) → are_new found ps ≡ true → part.has_key k found ≡ true → is_among (map key_of ps) k ≡ false

@@ -2,10 +2,10 @@
 --     outs_each, reads_each     what holds of each path of a written stage holds of those of the stage that has a turn
 --     is_stage, kept, outside   what is asked of one stage
 --     names_from                no two names are one
---     any_planned, marked       the outputs of the plan are those of all written stages, and so dependencies are marked
+--     any_planned, marked       the outputs of the plan are those of all stages that have turns, and so dependencies are marked
 --     ordered                   what a stage reads overlaps no output of its own or of a later one
 --     usable                    all that is asked of the stages of a plan
-use Rattle.std.proofs.Common.{◌≡◌, ℕ, ◌<◌, Bool, true, false, not, ◌&&◌, ◌||◌, ◌==◌, List, [], ◌∷◌, length, map, refl, sym, ap, ◌∙◌, arith, bytes_eq, Option, Some, None, slice_get}
+use Rattle.std.proofs.Common.{◌≡◌, ℕ, ◌<◌, Bool, true, false, not, ◌&&◌, ◌||◌, ◌==◌, cond, List, [], ◌∷◌, length, map, refl, sym, ap, ◌∙◌, arith, bytes_eq, Option, Some, None, slice_get}
 use Rattle.std.specs.List.{AllByRecursion, list_any, flat_map, cons_option}
 use Rattle.std.proofs.lemmas.Bool.{and_from, and_parts, or_parts, or_from, both_ways, false_from_ne_true, not_from_false, not-true, ne_eqb, false≢true, or_left, or_right, eq-eqb}
 use Rattle.std.proofs.lemmas.List.Folds.{list_any-append}
@@ -19,22 +19,26 @@ use Rattle.lock_files.specs.Order.{in_order}
 use Rattle.stage_order.specs.Closure.{StandsBehind}
 use Rattle.stage_order.specs.Order.{is_in, order}
 use Rattle.stage_order.proofs.ClosureLemmas.{behind_order}
+use Rattle.lock_files.specs.Form as form
 use Rattle.template_expand.specs.declared.stage.Out.{Out as WrittenOut}
+use Rattle.template_expand.specs.declared.stage.ParamWant.{ParamWant}
 use Rattle.template_expand.specs.declared.stage.Stage.{Stage as Written}
 use Rattle.stage_graph.specs.Cycle.{all_above}
 use Rattle.stage_graph.specs.Paths.{needs, makes, is_above, stage_outs}
-use Rattle.repro_laws.specs.Stage.{dep_path, out_path, dep_text, out_text, read_paths, stage_outs as made_paths, Names, IsStage}
+use Rattle.repro_laws.specs.Stage.{dep_path, out_path, tracked_path, dep_text, out_text, tracked_text, read_paths, stage_outs as made_paths, Names, IsStage}
 use Rattle.repro_laws.specs.Lock.{is_among}
 use Rattle.repro_laws.specs.Headline.{is_ordered, have_names, IsApart, IsKept, AreMarked}
 use Rattle.repro_laws.specs.Moments.{is_own}
 use Rattle.repro_laws.specs.Sound.{IsOutside}
 use Rattle.repro_laws.specs.declared.stage.Dep.{Dep}
+use Rattle.repro_laws.specs.declared.stage.Tracked.{Tracked}
 use Rattle.repro_laws.specs.declared.stage.Stage.{Stage}
-use Rattle.repro_laws.proofs.ListLemmas.{each_from, each_both, each_first, each_all, each_mapped, each_map, each_false, none_true, each_in_order}
+use Rattle.repro_laws.proofs.ListLemmas.{each_from, each_both, each_first, each_second, each_all, each_mapped, each_map, each_false, none_true, each_in_order}
 use Rattle.repro_laws.proofs.RefusalLemmas.{any_in_order}
-use Rattle.dvc_cli.specs.Plan.{dep_of, out_of, looks_of, outs_of, stage_of, all_outs, stages_at, planned_at, planned, AreUsable}
-use Rattle.dvc_cli.proofs.DistinctLemmas.{are_distinct, text_swap, rising}
-use Rattle.dvc_cli.proofs.PairLemmas.{AllPairs, Between, AreOnce, pairs_from, pairs_mapped, pairs_map, pairs_in_order, pairs_flat, pairs_of_flat, each_flat, between_turned, at_place, each_picked, pairs_picked, any_picked}
+use Rattle.dvc_cli.specs.Plan.{dep_of, out_of, tracked_of, looks_of, outs_of, stage_of, has_turn, with_turns, all_outs, stages_at, planned_at, planned, AreUsable}
+use Rattle.dvc_cli.proofs.DistinctLemmas.{are_distinct, text_swap, formed, rising}
+use Rattle.dvc_cli.proofs.PairLemmas.{AllPairs, Between, AreOnce, pairs_from, pairs_mapped, pairs_map, pairs_in_order, pairs_flat, pairs_of_flat, each_flat, between_turned, at_place, each_picked, pairs_picked, any_picked, each_kept, pairs_kept, any_kept}
+use Rattle.dvc_cli.proofs.SchemaLemmas.{HasKeysOnce}
 use Rattle.dvc_cli.proofs.ClearLemmas.{IsFar, IsClear, AreFree, AreClear}
 use Rattle.dvc_cli.proofs.TurnLemmas.{all_placed, once_placed, none_above}
 
@@ -46,11 +50,18 @@ outs_each outs P s h =
     (each_in_order out_text (λ o. P o.path) (outs_of s)
     (each_map (out_of s.dir) (λ o. P o.path) s.outs (each_mapped (λ (out : WrittenOut). path_from s.dir out.path) P s.outs h)))
 
-pub reads_each : (outs : List Path) (P : Path → Type 0) (s : Written) → AllByRecursion P (map (path_from s.dir) s.deps) → AllByRecursion P (read_paths (stage_of outs s))
+pub reads_each : (outs : List Path) (P : Path → Type 0) (s : Written) → AllByRecursion P (needs s) → AllByRecursion P (read_paths (stage_of outs s))
 reads_each outs P s h =
-    each_all P (map dep_path (stage_of outs s).deps) [] (each_map dep_path P (in_order dep_text (looks_of outs s))
+    let file : ParamWant → Path = λ want. path_from s.dir want.file in
+    let deps = map (path_from s.dir) s.deps in
+    let files = map file s.params in
+    let params = map (tracked_of s.dir) s.params in
+    each_all P (map dep_path (stage_of outs s).deps) (map tracked_path params)
+    (each_map dep_path P (in_order dep_text (looks_of outs s))
     (each_in_order dep_text (λ d. P d.path) (looks_of outs s)
-    (each_map (dep_of outs s.dir) (λ d. P d.path) s.deps (each_mapped (path_from s.dir) P s.deps h)))) tt
+    (each_map (dep_of outs s.dir) (λ d. P d.path) s.deps (each_mapped (path_from s.dir) P s.deps (each_first P deps files h)))))
+    (each_map tracked_path P params
+    (each_map (tracked_of s.dir) (λ w. P w.path) s.params (each_mapped file P s.params (each_second P deps files h))))
 
 -- ---- paths that are apart
 
@@ -102,6 +113,10 @@ texts_of_deps : (outs : List Path) (dir : Path) (texts : List (List ℕ)) → ma
 texts_of_deps outs dir [] = refl
 texts_of_deps outs dir (text ∷ texts) = ap (λ (ts : List (List ℕ)). text ∷ ts) (texts_of_deps outs dir texts)
 
+texts_of_wants : (dir : Path) (wants : List ParamWant) → map tracked_text (map (tracked_of dir) wants) ≡ map (λ want. want.file) wants
+texts_of_wants dir [] = refl
+texts_of_wants dir (want ∷ wants) = ap (λ (ts : List (List ℕ)). want.file ∷ ts) (texts_of_wants dir wants)
+
 made_pairs : (outs : List Path) (s : Written) → AllPairs AreFree (stage_outs s) → AllPairs AreFree (made_paths (stage_of outs s))
 made_pairs outs s h =
     pairs_map out_path AreFree (in_order out_text (outs_of s))
@@ -118,7 +133,9 @@ is_stage outs s it apart = record {
   dep_names = each_in_order dep_text (λ d. Names s.dir d.text d.path) (looks_of outs s) (each_map (dep_of outs s.dir) (λ d. Names s.dir d.text d.path) s.deps it.deps);
   out_names = each_in_order out_text (λ o. Names s.dir o.text o.path) (outs_of s) (each_map (out_of s.dir) (λ o. Names s.dir o.text o.path) s.outs it.outs);
   apart = apart_from (made_paths (stage_of outs s)) (outs_each outs HasPart s (each_from IsFar HasPart (stage_outs s) far_has it.makes)) (made_pairs outs s apart);
-  no_params = refl;
+  param_texts = ap (form.are_distinct []) (texts_of_wants s.dir s.params) ∙ formed (map (λ (want : ParamWant). want.file) s.params) it.written.param_files;
+  param_keys = each_map (tracked_of s.dir) (λ (w : Tracked). form.are_distinct [] w.keys ≡ true) s.params
+      (each_from HasKeysOnce (λ (want : ParamWant). form.are_distinct [] want.keys ≡ true) s.params (λ want once. formed want.keys once) it.written.param_keys);
 }
 
 -- ---- what the tool keeps
@@ -132,7 +149,7 @@ far_apart p far q u =
 kept : (outs : List Path) (s : Written) → IsClear s → IsKept is_own (stage_of outs s)
 kept outs s it = record {
   dir = or_from (under dvc_path s.dir) (under lock_path s.dir) it.dir_dvc it.dir_lock;
-  reads = reads_each outs (IsApart is_own) s (each_from IsFar (IsApart is_own) (map (path_from s.dir) s.deps) far_apart it.reads);
+  reads = reads_each outs (IsApart is_own) s (each_from IsFar (IsApart is_own) (needs s) far_apart it.reads);
   outs = outs_each outs (IsApart is_own) s (each_from IsFar (IsApart is_own) (stage_outs s) far_apart it.makes);
 }
 
@@ -207,44 +224,46 @@ any_made outs t s =
     ∙ sym (any_map (λ (out : WrittenOut). path_from s.dir out.path) t s.outs)
 
 any_planned : (outs : List Path) (t : Path → Bool) (ss : List Written) (ns : List ℕ) → ((n : ℕ) → n < length ss → is_in ns n ≡ true) →
-    list_any t (flat_map made_paths (map (stage_of outs) (stages_at ss ns))) ≡ list_any t (all_outs ss)
+    list_any t (flat_map made_paths (map (stage_of outs) (with_turns (stages_at ss ns)))) ≡ list_any t (all_outs (with_turns ss))
 any_planned outs t ss ns all =
-    any_flat made_paths t (map (stage_of outs) (stages_at ss ns))
-    ∙ any_map (stage_of outs) (λ s. list_any t (made_paths s)) (stages_at ss ns)
-    ∙ any_same (λ s. list_any t (made_paths (stage_of outs s))) (λ s. list_any t (stage_outs s)) (any_made outs t) (stages_at ss ns)
-    ∙ any_picked (λ s. list_any t (stage_outs s)) ss ns all
-    ∙ sym (any_flat stage_outs t ss)
+    let placed = stages_at ss ns in
+    any_flat made_paths t (map (stage_of outs) (with_turns placed))
+    ∙ any_map (stage_of outs) (λ s. list_any t (made_paths s)) (with_turns placed)
+    ∙ any_same (λ s. list_any t (made_paths (stage_of outs s))) (λ s. list_any t (stage_outs s)) (any_made outs t) (with_turns placed)
+    ∙ any_kept has_turn (λ s. list_any t (stage_outs s)) placed
+    ∙ any_picked (λ s. has_turn s && list_any t (stage_outs s)) ss ns all
+    ∙ sym (any_kept has_turn (λ s. list_any t (stage_outs s)) ss)
+    ∙ sym (any_flat stage_outs t (with_turns ss))
 
 marked_by : (outs : List Path) (dir : Path) (texts : List (List ℕ)) → AllByRecursion (λ (d : Dep). d.inside ≡ list_any (is_within d.path) outs) (map (dep_of outs dir) texts)
 marked_by outs dir [] = tt
 marked_by outs dir (text ∷ texts) = (refl, marked_by outs dir texts)
 
-marked : (ss : List Written) (ns : List ℕ) → ((n : ℕ) → n < length ss → is_in ns n ≡ true) → (s : Written) → AreMarked (planned_at ss ns) (stage_of (all_outs ss) s)
+marked : (ss : List Written) (ns : List ℕ) → ((n : ℕ) → n < length ss → is_in ns n ≡ true) → (s : Written) → AreMarked (planned_at ss ns) (stage_of (all_outs (with_turns ss)) s)
 marked ss ns all s =
-    let outs = all_outs ss in
+    let outs = all_outs (with_turns ss) in
     each_from (λ (d : Dep). d.inside ≡ list_any (is_within d.path) outs) (λ (d : Dep). d.inside ≡ list_any (is_within d.path) (flat_map made_paths (planned_at ss ns))) (stage_of outs s).deps
     (λ d h. h ∙ sym (any_planned outs (is_within d.path) ss ns all))
     (each_in_order dep_text (λ (d : Dep). d.inside ≡ list_any (is_within d.path) outs) (looks_of outs s) (marked_by outs s.dir s.deps))
 
 -- ---- the order
 
--- what a stage reads overlaps no output of another that isn't above it
-reads_apart : (outs : List Path) (a b : Written) → IsClear b → is_above a b ≡ false → AllByRecursion (λ p. AllByRecursion (AreFree p) (made_paths (stage_of outs a))) (read_paths (stage_of outs b))
-reads_apart outs a b it h =
-    let none : list_any (makes a) (needs b) ≡ false = sym (ap (λ (x : Bool). not x && list_any (makes a) (needs b)) it.thawed) ∙ h in
-    let all = each_first (λ need. makes a need ≡ false) (map (path_from b.dir) b.deps) (map (λ want. path_from b.dir want.file) b.params) (each_false (makes a) (needs b) none) in
+-- what a stage that has a turn reads overlaps no output of another that isn't above it
+reads_apart : (outs : List Path) (a b : Written) → has_turn b ≡ true → is_above a b ≡ false → AllByRecursion (λ p. AllByRecursion (AreFree p) (made_paths (stage_of outs a))) (read_paths (stage_of outs b))
+reads_apart outs a b turn h =
+    let none : list_any (makes a) (needs b) ≡ false = sym (ap (λ (x : Bool). x && list_any (makes a) (needs b)) turn) ∙ h in
     reads_each outs (λ p. AllByRecursion (AreFree p) (made_paths (stage_of outs a))) b
-    (each_from (λ need. makes a need ≡ false) (λ need. AllByRecursion (AreFree need) (made_paths (stage_of outs a))) (map (path_from b.dir) b.deps)
+    (each_from (λ need. makes a need ≡ false) (λ need. AllByRecursion (AreFree need) (made_paths (stage_of outs a))) (needs b)
     (λ need k. outs_each outs (AreFree need) a
     (each_from (λ out. overlap out need ≡ false) (AreFree need) (stage_outs a) (λ out free. free_turned out need free) (each_false (λ out. overlap out need) (stage_outs a) k)))
-    all)
+    (each_false (makes a) (needs b) none))
 
-reads_none : (outs : List Path) (b : Written) (as' : List Written) → IsClear b → AllByRecursion (λ a. is_above a b ≡ false) as' →
+reads_none : (outs : List Path) (b : Written) (as' : List Written) → has_turn b ≡ true → AllByRecursion (λ a. is_above a b ≡ false) as' →
     list_any (λ p. list_any (overlap p) (flat_map made_paths (map (stage_of outs) as'))) (read_paths (stage_of outs b)) ≡ false
-reads_none outs b as' it h =
+reads_none outs b as' turn h =
     let reads = read_paths (stage_of outs b) in
     none_true (λ p. list_any (overlap p) (flat_map made_paths (map (stage_of outs) as'))) reads
-    (go as' reads (each_from (λ a. is_above a b ≡ false) (λ a. AllByRecursion (λ p. AllByRecursion (AreFree p) (made_paths (stage_of outs a))) reads) as' (λ a k. reads_apart outs a b it k) h))
+    (go as' reads (each_from (λ a. is_above a b ≡ false) (λ a. AllByRecursion (λ p. AllByRecursion (AreFree p) (made_paths (stage_of outs a))) reads) as' (λ a k. reads_apart outs a b turn k) h))
   where
     nothing : (ps : List Path) → AllByRecursion (λ p. list_any (overlap p) [] ≡ false) ps
     nothing [] = tt
@@ -261,26 +280,29 @@ reads_none outs b as' it h =
         (none_true (overlap p) (made_paths (stage_of outs x)) here) later)
         k.0 (go xs ps k.1)
 
-ordered_cons : (outs : List Path) (o : Option Written) (rest : List Written) → ((s : Written) → o ≡ Some s → IsClear s × AllByRecursion (λ a. is_above a s ≡ false) (s ∷ rest)) →
-    is_ordered (map (stage_of outs) rest) ≡ true → is_ordered (map (stage_of outs) (cons_option o rest)) ≡ true
+ordered_cons : (outs : List Path) (o : Option Written) (rest : List Written) → ((s : Written) → o ≡ Some s → AllByRecursion (λ a. is_above a s ≡ false) (s ∷ rest)) →
+    is_ordered (map (stage_of outs) (with_turns rest)) ≡ true → is_ordered (map (stage_of outs) (with_turns (cons_option o rest))) ≡ true
 ordered_cons outs None rest f h = h
-ordered_cons outs (Some s) rest f h =
-    let it = f s refl in
-    let meets = list_any (λ p. list_any (overlap p) (flat_map made_paths (map (stage_of outs) (s ∷ rest)))) (read_paths (stage_of outs s)) in
-    and_from (not meets) (is_ordered (map (stage_of outs) rest)) (not_from_false meets (reads_none outs s (s ∷ rest) it.0 it.1)) h
+ordered_cons outs (Some s) rest f h = by (has_turn s) refl
+  where
+    by : (b : Bool) → has_turn s ≡ b → is_ordered (map (stage_of outs) (cond b (s ∷ with_turns rest) (with_turns rest))) ≡ true
+    by true turn =
+        let later = with_turns rest in
+        let apart = f s refl in
+        let meets = list_any (λ p. list_any (overlap p) (flat_map made_paths (map (stage_of outs) (s ∷ later)))) (read_paths (stage_of outs s)) in
+        and_from (not meets) (is_ordered (map (stage_of outs) later))
+        (not_from_false meets (reads_none outs s (s ∷ later) turn (apart.0, each_kept has_turn (λ a. is_above a s ≡ false) rest apart.1))) h
+    by false frozen = h
 
-ordered : (outs : List Path) (ss : List Written) (ns : List ℕ) → AllByRecursion IsClear ss → StandsBehind (all_above ss) ns → is_ordered (map (stage_of outs) (stages_at ss ns)) ≡ true
-ordered outs ss [] all h = refl
-ordered outs ss (n ∷ ns) all h =
+ordered : (outs : List Path) (ss : List Written) (ns : List ℕ) → StandsBehind (all_above ss) ns → is_ordered (map (stage_of outs) (with_turns (stages_at ss ns))) ≡ true
+ordered outs ss [] h = refl
+ordered outs ss (n ∷ ns) h =
     ordered_cons outs (slice_get ss n) (stages_at ss ns)
     (λ s e. (
-      at_place IsClear ss n s all e,
-      (
-        none_above ss n n s s e e (λ k. both_ways (is_in (n ∷ ns) n) (h.0 n k) (itself n ns)),
-        each_picked (λ a. is_above a s ≡ false) ss ns (λ m a inside d. none_above ss m n a s d e (λ k. both_ways (is_in (n ∷ ns) m) (h.0 m k) (behind n m ns inside))),
-      ),
+      none_above ss n n s s e e (λ k. both_ways (is_in (n ∷ ns) n) (h.0 n k) (itself n ns)),
+      each_picked (λ a. is_above a s ≡ false) ss ns (λ m a inside d. none_above ss m n a s d e (λ k. both_ways (is_in (n ∷ ns) m) (h.0 m k) (behind n m ns inside))),
     ))
-    (ordered outs ss ns all h.2)
+    (ordered outs ss ns h.2)
   where
     itself : (n : ℕ) (ns : List ℕ) → is_in (n ∷ ns) n ≡ true
     itself n ns = or_left (n == n) (is_in ns n) (eq-eqb n n refl)
@@ -292,36 +314,41 @@ ordered outs ss (n ∷ ns) all h =
 
 pub usable : (ss : List Written) → AreClear ss → are_distinct (map (λ s. s.name) ss) ≡ true → AreUsable (planned ss)
 usable ss it distinct =
-    let outs = all_outs ss in
+    let outs = all_outs (with_turns ss) in
     let above = all_above ss in
     let ns = order above in
     let behind = behind_order above in
     let all : (n : ℕ) → n < length ss → is_in ns n ≡ true = all_placed ss it.no_cycle in
     let once : AreOnce ns = once_placed above ns behind in
+    let placed = stages_at ss ns in
+    let turns = with_turns placed in
+    let stages = map (stage_of outs) turns in
     let pairs = pairs_of_flat stage_outs AreFree ss it.apart in
-    let each : AllByRecursion IsClear (stages_at ss ns) = each_picked IsClear ss ns (λ n s inside e. at_place IsClear ss n s it.each e) in
-    let own : AllByRecursion (λ s. AllPairs AreFree (stage_outs s)) (stages_at ss ns) =
-    each_picked (λ s. AllPairs AreFree (stage_outs s)) ss ns (λ n s inside e. at_place (λ x. AllPairs AreFree (stage_outs x)) ss n s pairs.0 e) in
-    let cross : AllPairs (λ a b. Between AreFree (stage_outs a) (stage_outs b)) (stages_at ss ns) =
-    pairs_picked (λ a b. Between AreFree (stage_outs a) (stage_outs b)) (λ a b. between_turned AreFree free_turned (stage_outs a) (stage_outs b)) ss pairs.1 ns once in
-    let made : AllPairs AreFree (flat_map made_paths (map (stage_of outs) (stages_at ss ns))) =
-    pairs_flat made_paths AreFree (map (stage_of outs) (stages_at ss ns))
-    (each_map (stage_of outs) (λ x. AllPairs AreFree (made_paths x)) (stages_at ss ns) (each_from (λ s. AllPairs AreFree (stage_outs s)) (λ s. AllPairs AreFree (made_paths (stage_of outs s))) (stages_at ss ns) (made_pairs outs) own))
-    (pairs_map (stage_of outs) (λ x y. Between AreFree (made_paths x) (made_paths y)) (stages_at ss ns)
-    (pairs_from (λ a b. Between AreFree (stage_outs a) (stage_outs b)) (λ a b. Between AreFree (made_paths (stage_of outs a)) (made_paths (stage_of outs b))) (stages_at ss ns) (between_made outs) cross)) in
-    let some : AllByRecursion HasPart (flat_map made_paths (map (stage_of outs) (stages_at ss ns))) =
-    each_flat made_paths HasPart (map (stage_of outs) (stages_at ss ns))
-    (each_map (stage_of outs) (λ x. AllByRecursion HasPart (made_paths x)) (stages_at ss ns)
-    (each_from IsClear (λ s. AllByRecursion HasPart (made_paths (stage_of outs s))) (stages_at ss ns)
+    let each : AllByRecursion IsClear turns = each_kept has_turn IsClear placed (each_picked IsClear ss ns (λ n s inside e. at_place IsClear ss n s it.each e)) in
+    let own : AllByRecursion (λ s. AllPairs AreFree (stage_outs s)) turns =
+    each_kept has_turn (λ s. AllPairs AreFree (stage_outs s)) placed
+    (each_picked (λ s. AllPairs AreFree (stage_outs s)) ss ns (λ n s inside e. at_place (λ x. AllPairs AreFree (stage_outs x)) ss n s pairs.0 e)) in
+    let cross : AllPairs (λ a b. Between AreFree (stage_outs a) (stage_outs b)) turns =
+    pairs_kept has_turn (λ a b. Between AreFree (stage_outs a) (stage_outs b)) placed
+    (pairs_picked (λ a b. Between AreFree (stage_outs a) (stage_outs b)) (λ a b. between_turned AreFree free_turned (stage_outs a) (stage_outs b)) ss pairs.1 ns once) in
+    let made : AllPairs AreFree (flat_map made_paths stages) =
+    pairs_flat made_paths AreFree stages
+    (each_map (stage_of outs) (λ x. AllPairs AreFree (made_paths x)) turns (each_from (λ s. AllPairs AreFree (stage_outs s)) (λ s. AllPairs AreFree (made_paths (stage_of outs s))) turns (made_pairs outs) own))
+    (pairs_map (stage_of outs) (λ x y. Between AreFree (made_paths x) (made_paths y)) turns
+    (pairs_from (λ a b. Between AreFree (stage_outs a) (stage_outs b)) (λ a b. Between AreFree (made_paths (stage_of outs a)) (made_paths (stage_of outs b))) turns (between_made outs) cross)) in
+    let some : AllByRecursion HasPart (flat_map made_paths stages) =
+    each_flat made_paths HasPart stages
+    (each_map (stage_of outs) (λ x. AllByRecursion HasPart (made_paths x)) turns
+    (each_from IsClear (λ s. AllByRecursion HasPart (made_paths (stage_of outs s))) turns
     (λ s k. outs_each outs HasPart s (each_from IsFar HasPart (stage_outs s) far_has k.makes)) each)) in
     record {
       planned = record {
-        each = each_map (stage_of outs) IsStage (stages_at ss ns) (each_both IsClear (λ s. AllPairs AreFree (stage_outs s)) (λ s. IsStage (stage_of outs s)) (stages_at ss ns) (is_stage outs) each own);
-        names = names_from outs (stages_at ss ns) (pairs_picked AreOther other_turned ss (other_names ss distinct) ns once);
-        order = ordered outs ss ns it.each behind;
-        apart = apart_from (flat_map made_paths (map (stage_of outs) (stages_at ss ns))) some made;
-        kept = each_map (stage_of outs) (IsKept is_own) (stages_at ss ns) (each_from IsClear (λ s. IsKept is_own (stage_of outs s)) (stages_at ss ns) (kept outs) each);
-        marked = each_map (stage_of outs) (AreMarked (planned ss)) (stages_at ss ns) (each_from IsClear (λ s. AreMarked (planned ss) (stage_of outs s)) (stages_at ss ns) (λ s k. marked ss ns all s) each);
+        each = each_map (stage_of outs) IsStage turns (each_both IsClear (λ s. AllPairs AreFree (stage_outs s)) (λ s. IsStage (stage_of outs s)) turns (is_stage outs) each own);
+        names = names_from outs turns (pairs_kept has_turn AreOther placed (pairs_picked AreOther other_turned ss (other_names ss distinct) ns once));
+        order = ordered outs ss ns behind;
+        apart = apart_from (flat_map made_paths stages) some made;
+        kept = each_map (stage_of outs) (IsKept is_own) turns (each_from IsClear (λ s. IsKept is_own (stage_of outs s)) turns (kept outs) each);
+        marked = each_map (stage_of outs) (AreMarked (planned ss)) turns (each_from IsClear (λ s. AreMarked (planned ss) (stage_of outs s)) turns (λ s k. marked ss ns all s) each);
       };
-      outside = each_map (stage_of outs) IsOutside (stages_at ss ns) (each_from IsClear (λ s. IsOutside (stage_of outs s)) (stages_at ss ns) (outside outs) each);
+      outside = each_map (stage_of outs) IsOutside turns (each_from IsClear (λ s. IsOutside (stage_of outs s)) turns (outside outs) each);
     }

@@ -1,14 +1,12 @@
 -- The plan of a `dvc.yaml`: its stages in the order of their turns, or the first of its refusals.
 --     stage_of outs s       the stage that has a turn, from one as the schema reads it; `outs` are the outputs of all stages
 --     stages_at ss ns       the stages at some places, in the order in which these are named
---     planned ss            all stages, in the order of their turns
+--     planned ss            the stages that have turns, in their order: all but the frozen ones
 --     schema_answer why     the answer to a refusal of the schema
---     turns_fault more ss   what turns can't do yet
 --     plan_of root          the stages of a node
 --     AreUsable stages      what is so of the stages of a plan
 use Rattle.std.specs.Prelude.{ℕ, Bool, not, ◌&&◌, ◌||◌, List, [], map, length, slice_get, Option, Some, None, Result, Ok, Err, ◌==◌, if◌then◌else◌}
-use Rattle.std.specs.List.{AllByRecursion, list_all, list_any, filter_map, flat_map}
-use Rattle.std.specs.Option.{option_or}
+use Rattle.std.specs.List.{AllByRecursion, list_any, filter, filter_map, flat_map}
 use Rattle.dvc_base.specs.Path.{Path, is_within}
 use Rattle.dvc_base.specs.Limits.{limit_of}
 use Rattle.dvc_base.specs.declared.limits.What.TheVariants as w
@@ -19,10 +17,10 @@ use Rattle.world_api.specs.Effect.{path_from}
 use Rattle.world_api.specs.Layout.{yaml_path}
 use Rattle.lock_files.specs.Order.{in_order}
 use Rattle.template_expand.specs.Expansion.{expansion}
-use Rattle.template_expand.specs.More.{asks_more}
 use Rattle.template_expand.specs.declared.fault.ExpandFault.{ExpandFault}
 use Rattle.template_expand.specs.declared.fault.ExpandFault.TheVariants as e
 use Rattle.template_expand.specs.declared.stage.Out.{Out as WrittenOut}
+use Rattle.template_expand.specs.declared.stage.ParamWant.{ParamWant}
 use Rattle.template_expand.specs.declared.stage.Stage.{Stage as Written}
 use Rattle.stage_order.specs.Order.{order}
 use Rattle.stage_graph.specs.Cycle.{all_above}
@@ -34,6 +32,7 @@ use Rattle.repro_laws.specs.Moments.{is_own}
 use Rattle.repro_laws.specs.Sound.{IsOutside}
 use Rattle.repro_laws.specs.declared.stage.Dep.{Dep}
 use Rattle.repro_laws.specs.declared.stage.Out.{Out}
+use Rattle.repro_laws.specs.declared.stage.Tracked.{Tracked}
 use Rattle.repro_laws.specs.declared.stage.Stage.{Stage}
 
 -- ---- its stages
@@ -55,9 +54,12 @@ looks_of outs s = map (dep_of outs s.dir) s.deps
 abbrev pub outs_of : Written → List Out
 outs_of s = map (out_of s.dir) s.outs
 
--- nothing tells whether a stage without dependencies would make something else, so it always counts as changed
+abbrev pub tracked_of : Path → ParamWant → Tracked
+tracked_of dir want = record { text = want.file; path = path_from dir want.file; keys = want.keys; all = want.all }
+
+-- nothing tells whether a stage without dependencies and parameters would make something else, so it always counts as changed
 abbrev pub is_changed : Written → Bool
-is_changed s = s.always || (length s.deps == 0)
+is_changed s = s.always || ((length s.deps == 0) && (length s.params == 0))
 
 abbrev pub stage_of : List Path → Written → Stage
 stage_of outs s = record {
@@ -66,13 +68,20 @@ stage_of outs s = record {
   dir = s.dir;
   looks = looks_of outs s;
   deps = in_order dep_text (looks_of outs s);
-  params = [];
+  params = map (tracked_of s.dir) s.params;
   outs = outs_of s;
   made = in_order out_text (outs_of s);
   always = is_changed s;
 }
 
 -- ---- in the order of their turns
+
+-- a frozen stage has no turn: what it makes is a source
+abbrev pub has_turn : Written → Bool
+has_turn s = not s.frozen
+
+abbrev pub with_turns : List Written → List Written
+with_turns ss = filter has_turn ss
 
 abbrev pub all_outs : List Written → List Path
 all_outs ss = flat_map stage_outs ss
@@ -81,7 +90,7 @@ abbrev pub stages_at : List Written → List ℕ → List Written
 stages_at ss ns = filter_map (slice_get ss) ns
 
 abbrev pub planned_at : List Written → List ℕ → List Stage
-planned_at ss ns = map (stage_of (all_outs ss)) (stages_at ss ns)
+planned_at ss ns = map (stage_of (all_outs (with_turns ss))) (with_turns (stages_at ss ns))
 
 abbrev pub planned : List Written → List Stage
 planned ss = planned_at ss (order (all_above ss))
@@ -96,32 +105,22 @@ schema_answer (e.TooMany count) = f.TooLarge w.Stages (limit_of w.Stages)
 schema_answer e.NotBuilt = f.NotBuilt yaml_path
 schema_answer e.NoMemory = f.NoMemory
 
--- ---- what turns can't do yet
-
--- it has no parameters, and isn't frozen
-abbrev pub is_plain : Written → Bool
-is_plain s = not s.frozen && (length s.params == 0)
-
--- an output is asked for more than that it be made, or a stage isn't plain
-abbrev pub turns_fault : Bool → List Written → Option Fault
-turns_fault more ss = if not more && list_all is_plain ss then None else Some (f.NotBuilt yaml_path)
-
 -- ---- the plan
 
--- the refusals of the graph come first. Track files, files of variables and ignore rules aren't read yet
-abbrev pub plan_fault : Bool → List Written → Option Fault
-plan_fault more ss = option_or (graph_fault ss [] [] []) (turns_fault more ss)
+-- the refusals of the graph. Track files, files of variables and ignore rules aren't read yet
+abbrev pub plan_fault : List Written → Option Fault
+plan_fault ss = graph_fault ss [] [] []
 
 abbrev pub stages_unless : Option Fault → List Written → Result (List Stage) Fault
 stages_unless None ss = Ok (planned ss)
 stages_unless (Some fault) ss = Err fault
 
-abbrev pub plan_by : Bool → Result (List Written) ExpandFault → Result (List Stage) Fault
-plan_by more (Ok ss) = stages_unless (plan_fault more ss) ss
-plan_by more (Err why) = Err (schema_answer why)
+abbrev pub plan_by : Result (List Written) ExpandFault → Result (List Stage) Fault
+plan_by (Ok ss) = stages_unless (plan_fault ss) ss
+plan_by (Err why) = Err (schema_answer why)
 
 unfoldable pub plan_of : Node → Result (List Stage) Fault
-plan_of root = plan_by (asks_more root) (expansion root)
+plan_of root = plan_by (expansion root)
 
 pub record AreUsable (stages : List Stage) : Type 0 where
   pub planned : IsPlanned is_own stages

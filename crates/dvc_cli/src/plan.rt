@@ -1,11 +1,9 @@
 // The plan of a `dvc.yaml`: its stages in the order of their turns, or the first of its refusals.
 ghost use Rattle.std.specs.Prelude.{◌≡◌, ◌⊎◌, ◌<◌, ◌^◌, length, Some};
-ghost use Rattle.std.specs.List.{list_all};
 ghost use Rattle.dvc_base.specs.Answer.{fault_in};
 ghost use Rattle.dvc_base.specs.Fault.{MayBe};
 ghost use Rattle.dvc_base.specs.declared.fault.Fault.TheVariants.{NoMemory as Memory};
-ghost use Rattle.stage_graph.specs.Fault.{Checks};
-ghost use Rattle.dvc_cli.specs.Plan.{schema_answer, is_plain, turns_fault, plan_fault, stages_unless, plan_of};
+ghost use Rattle.dvc_cli.specs.Plan.{schema_answer, plan_fault, stages_unless, plan_of};
 ghost use Rattle.dvc_cli.specs.Read.{IsRead};
 ghost use Rattle.dvc_cli.specs.Workspace.{plan_kinds};
 
@@ -14,20 +12,20 @@ use dvc_base::{Fault, Node, What};
 use repro_laws::Stages;
 use stage_graph::Graph;
 use std::alloc::Global;
-use template_expand::{ExpandFault, Stage as Written, asks_more, expand};
+use template_expand::{ExpandFault, Stage as Written, expand};
 use world_api::yaml_path;
 
 /// The stages that the node of a `dvc.yaml` says, in the order of their turns.
 ///
 /// What the schema refuses comes first, then what the graph of stages refuses. `NotBuilt` with `dvc.yaml` is answered for
-/// templates, and for what turns can't do yet.
+/// templates.
 #[tactic(auto, unfolding(crate::specs::Plan::plan_of))]
 pub(crate) fn plan_of(alloc: Global, root: &Node) -> Result<Stages, Fault>
     ensures plan { IsRead result (plan_of root.now) }
     ensures kinds { MayBe plan_kinds (fault_in result) }
 {
     match expand(alloc, root) {
-        Ok(written) => plan_from(alloc, asks_more(root), written.as_slice()),
+        Ok(written) => plan_from(alloc, written.as_slice()),
         Err(why) => Err(schema_answer(alloc, why)),
     }
 }
@@ -53,38 +51,12 @@ fn schema_answer(alloc: Global, why: ExpandFault) -> Fault
     }
 }
 
-// The same from the stages as the schema reads them, and from whether an output is asked for more.
-fn plan_from(alloc: Global, more: bool, written: &[Written]) -> Result<Stages, Fault>
+// The same from the stages as the schema reads them.
+fn plan_from(alloc: Global, written: &[Written]) -> Result<Stages, Fault>
     requires few { length written.now < 2 ^ 32 }
-    ensures plan { IsRead result (stages_unless (plan_fault more written.now) written.now) }
+    ensures plan { IsRead result (stages_unless (plan_fault written.now) written.now) }
     ensures kinds { MayBe plan_kinds (fault_in result) }
 {
     let graph = Graph::make(alloc, written, &[], &[], &[])?;
-    check_turns(alloc, more, written)?;
     Ok(planned(alloc, written, graph.order())?)
-}
-
-fn check_turns(alloc: Global, more: bool, written: &[Written]) -> Result<(), Fault>
-    ensures checked { Checks result (turns_fault more written.now) }
-    ensures kinds { MayBe plan_kinds (fault_in result) }
-{
-    if more || !are_plain(written) {
-        return Err(Fault::NotBuilt {
-            file: yaml_path(alloc)?,
-        });
-    }
-    Ok(())
-}
-
-fn are_plain(stages: &[Written]) -> bool
-    ensures exact { result ≡ list_all is_plain stages.now }
-{
-    stages.iter().all(|stage| is_plain(stage))
-}
-
-// Whether it has no parameters, and isn't frozen.
-fn is_plain(stage: &Written) -> bool
-    ensures exact { result ≡ is_plain stage.now }
-{
-    !stage.frozen && stage.params.as_slice().is_empty()
 }

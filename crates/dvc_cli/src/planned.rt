@@ -3,16 +3,16 @@ ghost use Rattle.std.specs.Prelude.{◌≡◌, [], ◌∷◌, ◌++◌, map, IfO
 ghost use Rattle.world_api.specs.Effect.{path_from};
 ghost use Rattle.lock_files.specs.Order.{in_order};
 ghost use Rattle.repro_laws.specs.Stage.{dep_text, out_text};
-ghost use Rattle.dvc_cli.specs.Plan.{is_changed, dep_of, out_of, looks_of, outs_of, stage_of, all_outs, stages_at, planned_at};
+ghost use Rattle.dvc_cli.specs.Plan.{is_changed, dep_of, out_of, tracked_of, looks_of, outs_of, stage_of, has_turn, with_turns, all_outs, stages_at, planned_at};
 
 use crate::by_text::{deps_by_text, outs_by_text};
 use dvc_base::{NoMemory, PathFault, Plain, Plural, Rel, Rels, Text};
 use path_index::PathIndex;
-use repro_laws::{Dep, Out, Stage, Stages};
+use repro_laws::{Dep, Out, Stage, Stages, Tracked};
 use std::alloc::Global;
-use template_expand::{Out as WrittenOut, Stage as Written};
+use template_expand::{Out as WrittenOut, ParamWant, Stage as Written};
 
-/// The stages at these places, in this order.
+/// The stages at these places, in this order, without the frozen ones.
 pub(crate) fn planned(alloc: Global, written: &[Written], order: &[u32]) -> Result<Stages, NoMemory>
     ensures exact { IfOk result (λ stages. stages ≡ planned_at written.now order.now) }
 {
@@ -21,14 +21,31 @@ pub(crate) fn planned(alloc: Global, written: &[Written], order: &[u32]) -> Resu
     stages_at(alloc, written, order, &index)
 }
 
+// A frozen stage has no turn: what it makes is a source.
+fn has_turn(stage: &Written) -> bool
+    ensures exact { result ≡ has_turn stage.now }
+{
+    !stage.frozen
+}
+
+// The outputs of the stages that have turns.
 fn all_outs(alloc: Global, written: &[Written]) -> Result<Rels, NoMemory>
-    ensures exact { IfOk result (λ paths. paths ≡ all_outs written.now) }
+    ensures exact { IfOk result (λ paths. paths ≡ all_outs (with_turns written.now)) }
 {
     let mut paths = Rels::new(alloc);
     for stage in written {
-        push_outs(alloc, &mut paths, &stage.dir, stage.outs.as_slice())?;
+        push_stage_outs(alloc, &mut paths, stage)?;
     }
     Ok(paths)
+}
+
+fn push_stage_outs(alloc: Global, paths: &mut Rels, stage: &Written) -> Result<(), NoMemory>
+    ensures ok { OnOk result (paths.new ≡ paths.old ++ all_outs (with_turns (stage.now ∷ []))) }
+{
+    if !has_turn(stage) {
+        return Ok(());
+    }
+    push_outs(alloc, paths, &stage.dir, stage.outs.as_slice())
 }
 
 fn push_outs(
@@ -51,16 +68,17 @@ fn stages_at(
     order: &[u32],
     outs: &PathIndex,
 ) -> Result<Stages, NoMemory>
-    ensures exact { IfOk result (λ stages. stages ≡ map (stage_of outs.now) (stages_at written.now order.now)) }
+    ensures exact { IfOk result (λ stages.
+        stages ≡ map (stage_of outs.now) (with_turns (stages_at written.now order.now))) }
 {
     let mut stages = Stages::new(alloc);
     for number in order {
-        push_stage(alloc, &mut stages, written, *number, outs)?;
+        push_at(alloc, &mut stages, written, *number, outs)?;
     }
     Ok(stages)
 }
 
-fn push_stage(
+fn push_at(
     alloc: Global,
     stages: &mut Stages,
     written: &[Written],
@@ -68,16 +86,29 @@ fn push_stage(
     outs: &PathIndex,
 ) -> Result<(), NoMemory>
     ensures ok { OnOk result
-        (stages.new ≡ stages.old ++ map (stage_of outs.now) (stages_at written.now (number ∷ []))) }
+        (stages.new ≡ stages.old ++ map (stage_of outs.now) (with_turns (stages_at written.now (number ∷ [])))) }
 {
     match written.get(number as usize) {
-        Some(stage) => {
-            let made = stage_of(alloc, stage, outs)?;
-            stages.push(made)?;
-            Ok(())
-        }
+        Some(stage) => push_stage(alloc, stages, stage, outs),
         None => Ok(()),
     }
+}
+
+fn push_stage(
+    alloc: Global,
+    stages: &mut Stages,
+    stage: &Written,
+    outs: &PathIndex,
+) -> Result<(), NoMemory>
+    ensures ok { OnOk result
+        (stages.new ≡ stages.old ++ map (stage_of outs.now) (with_turns (stage.now ∷ []))) }
+{
+    if !has_turn(stage) {
+        return Ok(());
+    }
+    let made = stage_of(alloc, stage, outs)?;
+    stages.push(made)?;
+    Ok(())
 }
 
 fn stage_of(alloc: Global, stage: &Written, outs: &PathIndex) -> Result<Stage, NoMemory>
@@ -85,13 +116,15 @@ fn stage_of(alloc: Global, stage: &Written, outs: &PathIndex) -> Result<Stage, N
 {
     let looks = looks_of(alloc, stage, outs)?;
     let made = outs_of(alloc, stage)?;
-    stage_with(alloc, stage, looks, made)
+    let params = params_of(alloc, stage)?;
+    stage_with(alloc, stage, looks, params, made)
 }
 
 fn stage_with(
     alloc: Global,
     stage: &Written,
     looks: Plural<Dep>,
+    params: Plural<Tracked>,
     outs: Plural<Out>,
 ) -> Result<Stage, NoMemory>
     ensures exact { IfOk result (λ made. made ≡ record {
@@ -100,7 +133,7 @@ fn stage_with(
       dir = stage.now.dir;
       looks = looks;
       deps = in_order dep_text looks;
-      params = [];
+      params = params;
       outs = outs;
       made = in_order out_text outs;
       always = is_changed stage.now;
@@ -114,18 +147,19 @@ fn stage_with(
         dir: stage.dir.copy(alloc)?,
         looks,
         deps,
-        params: Plural::new(alloc),
+        params,
         outs,
         made,
         always: is_changed(stage),
     })
 }
 
-// Whether it always counts as changed: nothing tells whether a stage without dependencies would make something else.
+// Whether it always counts as changed: nothing tells whether a stage without dependencies and parameters would make something
+// else.
 fn is_changed(stage: &Written) -> bool
     ensures exact { result ≡ is_changed stage.now }
 {
-    stage.always || stage.deps.as_slice().is_empty()
+    stage.always || (stage.deps.as_slice().is_empty() && stage.params.as_slice().is_empty())
 }
 
 // The dependencies as they are written.
@@ -148,6 +182,29 @@ fn dep_of(alloc: Global, dir: &Rel, text: &Text, outs: &PathIndex) -> Result<Dep
         text: text.copy(alloc)?,
         path,
         inside,
+    })
+}
+
+// The files of parameters as they are written.
+fn params_of(alloc: Global, stage: &Written) -> Result<Plural<Tracked>, NoMemory>
+    ensures exact { IfOk result (λ params. params ≡ map (tracked_of stage.now.dir) stage.now.params) }
+{
+    let mut params = Plural::new(alloc);
+    for want in stage.params.as_slice() {
+        params.push(tracked_of(alloc, &stage.dir, want)?)?;
+    }
+    Ok(params)
+}
+
+fn tracked_of(alloc: Global, dir: &Rel, want: &ParamWant) -> Result<Tracked, NoMemory>
+    ensures exact { IfOk result (λ made. made ≡ tracked_of dir.now want.now) }
+{
+    let path = path_from(alloc, dir, &want.file)?;
+    Ok(Tracked {
+        text: want.file.copy(alloc)?,
+        path,
+        keys: want.keys.copy(alloc)?,
+        all: want.all,
     })
 }
 

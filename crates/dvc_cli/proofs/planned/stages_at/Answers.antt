@@ -1,7 +1,7 @@
 -- The stage at one more place.
 use Rattle.std.proofs.Common.{List, [], ◌∷◌, ◌++◌, map, get_or, sym, ap, ◌∙◌}
 use Rattle.repro_laws.specs.declared.stage.Stage.{Stage}
-use Rattle.dvc_cli.specs.Plan.{stage_of, stages_at}
+use Rattle.dvc_cli.specs.Plan.{stage_of, with_turns, stages_at}
 use Rattle.dvc_cli.proofs.PlannedLemmas.{stages_more}
 use Rattle.dvc_cli.proofs.planned.stages_at.Goals as goal
 
@@ -11,6 +11,6 @@ loop-number-preserved c =
     let outs = c.args.outs.now in
     let ns = c.args.order.now in
     let i = c.loop-number.number-index in
-    c.in_ok-push_stage.ensures.ok
-    ∙ ap (λ (stages : List Stage). stages ++ map (stage_of outs) (stages_at written (get_or ns i 0 ∷ []))) c.loop-number.invariant
+    c.in_ok-push_at.ensures.ok
+    ∙ ap (λ (stages : List Stage). stages ++ map (stage_of outs) (with_turns (stages_at written (get_or ns i 0 ∷ [])))) c.loop-number.invariant
     ∙ sym (stages_more outs written ns i c.loop-number-test.true)
