@@ -129,7 +129,7 @@ REFUSALS = {
     "not built": r"'dvc\.yaml' is not supported yet",
 }
 # A fault of a turn, before which commands may have run.
-TURNS = r"stage '.*'(: missing (dependency|output) '.*'| failed with -?\d+)|'.*' is not a folder|a file or program call failed"
+TURNS = r"'.*' is missing|'.*' has no key '.*'|stage '.*'(: missing (dependency|output) '.*'| failed with -?\d+)|'.*' is not a folder|a file or program call failed"
 
 
 def kind_of(status, told):

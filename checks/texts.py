@@ -75,7 +75,7 @@ GRAPH = (
 )
 # What a good `dvc.yaml` of the table may still come to: what its commands and paths name isn't there.
 GOOD = (
-    rf"|ERROR: ('dvc\.yaml' is not supported yet|'.*' is not a path of the workspace|{GRAPH}"
+    rf"|ERROR: ('.*' is not a path of the workspace|{GRAPH}|'.*' is missing"
     r"|stage '.*'(: missing (dependency|output) '.*'| failed with (127|2)))"
 )
 NO_NODE = r"ERROR: 'dvc\.yaml' line \d+: (syntax|duplicate key|too deep|number too wide)"
@@ -293,11 +293,6 @@ REFUSED_YAML = [
     ("vars: [{a: 1}]\n", NOT_BUILT),
     ("stages: {copy: {foreach: [a], do: {cmd: c}}}\n", NOT_BUILT),
     ("stages: {copy: {matrix: {a: [b]}, cmd: c}}\n", NOT_BUILT),
-    ("stages: {copy: {cmd: c, params: [a]}}\n", NOT_BUILT),
-    ("stages: {copy: {cmd: c, metrics: [m]}}\n", NOT_BUILT),
-    ("stages: {copy: {cmd: c, plots: [p]}}\n", NOT_BUILT),
-    ("stages: {copy: {cmd: c, outs: [{out: {cache: false}}]}}\n", NOT_BUILT),
-    ("stages: {copy: {cmd: c, frozen: true}}\n", NOT_BUILT),
     ("stages: {copy: {cmd: c, deps: [dvc.lock]}}\n", "'dvc.lock' has a reserved name"),
     ("stages: {copy: {cmd: c, deps: [.]}}\n", "'.' overlaps '.dvc'"),
     ("stages: {copy: {cmd: c, wdir: .dvc/tmp}}\n", "'.dvc/tmp' overlaps '.dvc'"),
@@ -349,8 +344,8 @@ ORDER = [
     ({"dvc.yaml": b"stages: {a: {cmd: c, outs: [out, params.yaml]}, b: {cmd: c, outs: [out]}}"}, "'out' is an output of 'a' and 'b'"),
     ({"dvc.yaml": b"stages: {a: {cmd: c, deps: [in], outs: [in, params.yaml]}}"}, "variables in 'params.yaml' come from output 'params.yaml'"),
     ({"dvc.yaml": b"stages: {a: {cmd: c, deps: [in], outs: [in]}, b: {cmd: c, frozen: true}}"}, "cycle: a <- a"),
-    ({"dvc.yaml": b"stages: {a: {cmd: c, deps: [missing]}, b: {cmd: c, frozen: true}}"}, NOT_BUILT),
-    ({"dvc.yaml": b"stages: {a: {cmd: c, deps: [missing], outs: [notes/out]}}"}, "stage 'a': missing dependency 'missing'"),
+    ({"dvc.yaml": b"stages: {a: {cmd: c, deps: [missing], params: [k], outs: [notes/out]}}"}, "stage 'a': missing dependency 'missing'"),
+    ({"dvc.yaml": b"stages: {a: {cmd: c, deps: [notes], params: [k], outs: [words/out]}}"}, "'params.yaml' is missing"),
     ({"dvc.yaml": b"stages: {a: {cmd: c, deps: [notes], outs: [words/out]}}"}, "'words' is not a folder"),
 ]
 
