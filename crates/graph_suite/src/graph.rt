@@ -36,7 +36,7 @@ fn has_order(alloc: Global, text: &[u8], order: &[u32]) -> bool {
 }
 
 fn node_has_order(alloc: Global, node: &Node, order: &[u32]) -> bool {
-    match expand(alloc, node) {
+    match expand(alloc, node, &[]) {
         Ok(stages) => stages_have_order(alloc, stages.as_slice(), order),
         Err(_) => false,
     }
@@ -70,7 +70,7 @@ fn is_refused(alloc: Global, text: &[u8], kind: FaultKind) -> bool {
 }
 
 fn node_is_refused(alloc: Global, node: &Node, kind: FaultKind) -> bool {
-    match expand(alloc, node) {
+    match expand(alloc, node, &[]) {
         Ok(stages) => stages_are_refused(alloc, stages.as_slice(), kind),
         Err(_) => false,
     }

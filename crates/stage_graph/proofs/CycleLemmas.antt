@@ -6,7 +6,7 @@ use Rattle.std.specs.Option.{option_map}
 use Rattle.std.specs.List.{cons_option}
 use Rattle.std.proofs.lemmas.List.{take_more}
 use Rattle.std.proofs.lemmas.List.Elements.{filter_map-append}
-use Rattle.template_expand.specs.declared.stage.Stage.{Stage}
+use Rattle.stage_schema.specs.declared.stage.Stage.{Stage}
 use Rattle.stage_graph.specs.Cycle.{names_of}
 
 pub name_some : (stages : List Stage) (n : ℕ) (s : Stage) (name : List ℕ) (old now : List (List ℕ)) → slice_get stages n ≡ Some s → name ≡ s.name →

@@ -20,8 +20,8 @@ use Rattle.dvc_base.specs.Path.{Path, overlap}
 use Rattle.path_index.specs.Overlap.{places, places_from, overlapping}
 use Rattle.stage_order.specs.Order.{is_in}
 use Rattle.stage_order.proofs.NumberLemmas.{either, or_false, in_insert, above_all}
-use Rattle.template_expand.specs.declared.stage.Out.{Out}
-use Rattle.template_expand.specs.declared.stage.Stage.{Stage}
+use Rattle.stage_schema.specs.declared.stage.Out.{Out}
+use Rattle.stage_schema.specs.declared.stage.Stage.{Stage}
 use Rattle.world_api.specs.Effect.{path_from}
 use Rattle.stage_graph.specs.Makers.{is_maker, stages_at}
 use Rattle.stage_graph.specs.Paths.{outputs, outputs_in, outputs_of, outputs_from, output_paths, needs, makes, is_above}

@@ -9,7 +9,7 @@ use Rattle.std.specs.Option.{option_or}
 use Rattle.dvc_base.specs.declared.fault.Fault.{Fault}
 use Rattle.stage_order.specs.Order.{order}
 use Rattle.stage_order.specs.Walk.{first_walk}
-use Rattle.template_expand.specs.declared.stage.Stage.{Stage}
+use Rattle.stage_schema.specs.declared.stage.Stage.{Stage}
 use Rattle.stage_graph.specs.Cycle.{all_above, walk_fault}
 use Rattle.stage_graph.specs.Fault.{first_due}
 use Rattle.stage_graph.specs.Graph.{graph_of, IsGraph}

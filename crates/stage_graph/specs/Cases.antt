@@ -6,7 +6,7 @@ use Rattle.dvc_base.specs.Path.{Path}
 use Rattle.dvc_base.specs.declared.path.PathFault.TheVariants as p
 use Rattle.stage_order.specs.Order.{order}
 use Rattle.stage_order.specs.Brought.{brought}
-use Rattle.template_expand.specs.declared.stage.Stage.{Stage}
+use Rattle.stage_schema.specs.declared.stage.Stage.{Stage}
 use Rattle.stage_graph.specs.Clash.{clash_fault, made_fault}
 use Rattle.stage_graph.specs.Cycle.{all_above, cycle_fault}
 use Rattle.stage_graph.specs.Kept.{tool_fault, file_fault, name_fault}

@@ -7,7 +7,7 @@ use Rattle.std.specs.List.{find}
 use Rattle.dvc_base.specs.Path.{Path, overlap, is_one}
 use Rattle.dvc_base.specs.declared.fault.Fault.{Fault}
 use Rattle.dvc_base.specs.declared.fault.Fault.TheVariants as f
-use Rattle.template_expand.specs.declared.stage.Stage.{Stage}
+use Rattle.stage_schema.specs.declared.stage.Stage.{Stage}
 use Rattle.stage_graph.specs.Fault.{first_of}
 use Rattle.stage_graph.specs.Paths.{outputs, output_paths}
 use Rattle.stage_graph.specs.declared.owner.Owner.{Owner}

@@ -8,7 +8,7 @@ use Rattle.dvc_base.specs.declared.fault.Fault.TheVariants as f
 use Rattle.path_index.specs.Overlap.{places}
 use Rattle.stage_order.specs.Order.{is_in, order}
 use Rattle.stage_order.specs.Walk.{first_walk}
-use Rattle.template_expand.specs.declared.stage.Stage.{Stage}
+use Rattle.stage_schema.specs.declared.stage.Stage.{Stage}
 use Rattle.stage_graph.specs.Paths.{is_above}
 
 abbrev pub all_above : List Stage → List (List ℕ)

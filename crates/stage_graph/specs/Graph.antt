@@ -7,7 +7,7 @@ use Rattle.dvc_base.specs.Path.{Path}
 use Rattle.dvc_base.specs.declared.fault.Fault.{Fault}
 use Rattle.dvc_base.specs.declared.fault.Fault.TheVariants as f
 use Rattle.stage_order.specs.Order.{order}
-use Rattle.template_expand.specs.declared.stage.Stage.{Stage}
+use Rattle.stage_schema.specs.declared.stage.Stage.{Stage}
 use Rattle.stage_graph.specs.Fault.{first_due}
 use Rattle.stage_graph.specs.Paths.{owners, owner_paths}
 use Rattle.stage_graph.specs.Texts.{outside_fault}

@@ -13,7 +13,7 @@ use Rattle.dvc_base.specs.Path.{Path, overlap, under, is_one}
 use Rattle.dvc_base.specs.declared.fault.Fault.{Fault}
 use Rattle.dvc_base.specs.declared.fault.Fault.TheVariants as f
 use Rattle.world_api.specs.Layout.{dvc_path, lock_path, yaml_path}
-use Rattle.template_expand.specs.declared.stage.Stage.{Stage}
+use Rattle.stage_schema.specs.declared.stage.Stage.{Stage}
 use Rattle.stage_graph.specs.Fault.{first_of}
 use Rattle.stage_graph.specs.Paths.{needs}
 use Rattle.stage_graph.specs.declared.track.TrackFile.{TrackFile}

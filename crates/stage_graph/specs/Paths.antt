@@ -10,8 +10,8 @@ use Rattle.std.specs.List.{list_any, flat_map}
 use Rattle.dvc_base.specs.Path.{Path, path_text, overlap}
 use Rattle.world_api.specs.Effect.{path_from}
 use Rattle.lock_files.specs.declared.PathEntry.{PathEntry}
-use Rattle.template_expand.specs.declared.stage.Out.{Out}
-use Rattle.template_expand.specs.declared.stage.Stage.{Stage}
+use Rattle.stage_schema.specs.declared.stage.Out.{Out}
+use Rattle.stage_schema.specs.declared.stage.Stage.{Stage}
 use Rattle.stage_graph.specs.declared.owner.Owner.{Owner}
 use Rattle.stage_graph.specs.declared.output.Output.{Output}
 use Rattle.stage_graph.specs.declared.track.TrackFile.{TrackFile}

@@ -7,7 +7,7 @@ use Rattle.dvc_base.specs.Join.{join}
 use Rattle.dvc_base.specs.declared.fault.Fault.{Fault}
 use Rattle.dvc_base.specs.declared.fault.Fault.TheVariants as f
 use Rattle.dvc_base.specs.declared.path.PathFault.{PathFault}
-use Rattle.template_expand.specs.declared.stage.Stage.{Stage}
+use Rattle.stage_schema.specs.declared.stage.Stage.{Stage}
 use Rattle.stage_graph.specs.Fault.{first_of}
 use Rattle.stage_graph.specs.Paths.{folder_of}
 use Rattle.stage_graph.specs.declared.track.TrackFile.{TrackFile}

@@ -4,8 +4,8 @@ ghost use Rattle.dvc_base.specs.declared.fault.Fault.TheVariants.{Cycle};
 ghost use Rattle.stage_graph.specs.Cycle.{names_of};
 
 use dvc_base::{Fault, NoMemory, Plain, Texts};
+use stage_schema::Stage;
 use std::alloc::Global;
-use template_expand::Stage;
 
 /// The refusal that tells a walk by the names of its stages.
 pub fn cycle(alloc: Global, stages: &[Stage], walk: &[u32]) -> Result<Fault, NoMemory>

@@ -6,7 +6,7 @@ ghost use Rattle.std.specs.Ordering.{nat_cmp};
 ghost use Rattle.path_index.specs.Overlap.{places};
 ghost use Rattle.stage_order.specs.Order.{is_in};
 ghost use Rattle.stage_graph.specs.Cycle.{all_above};
-ghost use Rattle.template_expand.specs.declared.stage.Stage.{Stage};
+ghost use Rattle.stage_schema.specs.declared.stage.Stage.{Stage};
 ghost use Rattle.stage_graph.specs.Makers.{is_maker, stages_at};
 ghost use Rattle.stage_graph.specs.Paths.{needs, is_above, outputs, output_paths};
 
@@ -14,9 +14,9 @@ use crate::output::Output;
 use crate::path::needs_of;
 use dvc_base::{NoMemory, Numbers, Plural, Rel};
 use path_index::PathIndex;
+use stage_schema::Stage;
 use std::alloc::Global;
 use std::collections::BTreeSet;
-use template_expand::Stage;
 
 /// For each stage the numbers of those above it. The index is that of all outputs.
 pub fn all_above(

@@ -23,8 +23,8 @@ use crate::text::check_texts;
 use dvc_base::{Fault, NoMemory, Numbers, Plural, Rel};
 use path_index::PathIndex;
 use stage_order::{brought, order_of, walk_of};
+use stage_schema::Stage;
 use std::alloc::Global;
-use template_expand::Stage;
 
 /// The graph of stages that can have their turns. A stage goes by its place in the list that the graph was made of.
 #[derive(Drop)]

@@ -12,8 +12,8 @@ use crate::TrackFile;
 use crate::path::needs_of;
 use dvc_base::{Fault, NoMemory, Plain, Rel, Rels, is_at_or_below, is_same};
 use path_index::PathIndex;
+use stage_schema::Stage;
 use std::alloc::Global;
-use template_expand::Stage;
 use world_api::{dvc_path, lock_path, yaml_path};
 
 /// The first path that is kept from an owner, from what a stage needs, or from a file of variables.

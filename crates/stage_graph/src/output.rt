@@ -4,8 +4,8 @@ ghost use Rattle.stage_graph.specs.Paths.{outputs_in, outputs_of, outputs, outpu
 
 use crate::path::path_from;
 use dvc_base::{NoMemory, Plain, Plural, Rel, Rels};
+use stage_schema::{Out, Stage};
 use std::alloc::Global;
-use template_expand::{Out, Stage};
 
 /// A path that the stage of this number makes.
 #[derive(Drop)]

@@ -8,8 +8,8 @@ use crate::TrackFile;
 use crate::path::{folder_of, path_from};
 use dvc_base::{NoMemory, Plain, Plural, Rel, Rels, Text};
 use lock_files::PathEntry;
+use stage_schema::{Out, Stage};
 use std::alloc::Global;
-use template_expand::{Out, Stage};
 
 /// A path with the name of what it belongs to: of the stage that makes it, or of the track file that records it.
 #[derive(Drop)]

@@ -4,8 +4,8 @@ ghost use Rattle.world_api.specs.Effect.{path_from};
 ghost use Rattle.stage_graph.specs.Paths.{folder_of, needs};
 
 use dvc_base::{NoMemory, PathFault, Rel, Rels, Text};
+use stage_schema::{ParamWant, Stage};
 use std::alloc::Global;
-use template_expand::{ParamWant, Stage};
 
 /// The path that a text names from a folder; the root where it names none.
 pub fn path_from(alloc: Global, dir: &Rel, text: &str) -> Result<Rel, NoMemory>

@@ -6,8 +6,8 @@ use crate::TrackFile;
 use crate::path::folder_of;
 use dvc_base::{Fault, PathFault, Rel, Text};
 use lock_files::PathEntry;
+use stage_schema::{Out, ParamWant, Stage};
 use std::alloc::Global;
-use template_expand::{Out, ParamWant, Stage};
 
 /// The first text that is no path: the owners' come first, and then stage by stage those that it needs.
 pub fn check_texts(alloc: Global, stages: &[Stage], tracks: &[TrackFile]) -> Result<(), Fault>

@@ -1,1 +1,5 @@
-pub mod WantLemmas
+pub mod AnswerLemmas
+pub mod WantedLemmas
+pub mod ChoiceLemmas
+pub mod NameLemmas
+pub mod WalkLemmas

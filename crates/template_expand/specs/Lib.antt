@@ -1,7 +1,8 @@
-pub mod Node
-pub mod Refusal
-pub mod Schema
-pub mod Params
-pub mod Stages
+pub mod Answer
+pub mod Vars
+pub mod Wanted
+pub mod Fill
+pub mod Made
+pub mod Source
 pub mod Expansion
-pub mod More
+pub mod Cases

@@ -1,20 +1,22 @@
-//! The stages that a `dvc.yaml` says.
+//! What a `dvc.yaml` comes to: variables put into its texts, and the stages that `foreach` and `matrix` make.
 #![tactic(auto)]
 
-mod build;
-mod check;
+mod cases;
 mod expansion;
 mod fault;
-mod more;
-mod node;
-mod outs;
-mod params;
-mod paths;
-mod stage;
-mod value;
-mod wants;
+mod files;
+mod fill;
+mod made;
+mod matrix;
+mod part;
+mod vars;
+mod walk;
+mod wanted;
 
+pub use cases::worked_cases;
 pub use expansion::expand;
-pub use fault::ExpandFault;
-pub use more::asks_more;
-pub use stage::{Out, Outs, ParamWant, ParamWants, Stage, Stages};
+pub use files::{VarFile, VarFiles};
+pub use made::Made;
+pub use stage_schema::{ExpandFault, Out, Outs, ParamWant, ParamWants, Stage, Stages};
+pub use vars::Vars;
+pub use wanted::wanted_files;

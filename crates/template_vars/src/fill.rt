@@ -75,7 +75,7 @@ fn key_text<'a>(alloc: Global, scope: &Scope<'a>, key: &str) -> Result<&'a str, 
         (λ fault. Ends fault (spec.key_text scope.now key.now)) }
 {
     match scope.find(key) {
-        Some(node) => match text_of(node) {
+        Some(node) => match scalar_text(node) {
             Some(text) => Ok(text),
             None => Err(TemplateFault::NotScalar {
                 key: Text::of(alloc, key)?,
@@ -87,8 +87,8 @@ fn key_text<'a>(alloc: Global, scope: &Scope<'a>, key: &str) -> Result<&'a str, 
     }
 }
 
-// The text of a scalar, as it is written.
-fn text_of(node: &Node) -> Option<&str>
+/// The text of a scalar, as it is written: nothing for Null, and none for a list or a mapping.
+pub fn scalar_text(node: &Node) -> Option<&str>
     ensures exact { option_copied result ≡ spec.text_of (out-Node node.now) }
 {
     match node {

@@ -14,7 +14,7 @@ mod variables;
 
 pub use cases::worked_cases;
 pub use fault::TemplateFault;
-pub use fill::{node_of_key, resolve};
+pub use fill::{node_of_key, resolve, scalar_text};
 pub use item::{WantedFile, chosen, wanted_of};
 pub use laws::variable_laws;
 pub use scope::Scope;

@@ -3,7 +3,7 @@ use Rattle.std.proofs.Common.{◌≡◌, List, ap, ◌∙◌}
 use Rattle.std.specs.List.{list_any}
 use Rattle.std.proofs.lemmas.Result.{IfOk-weaker}
 use Rattle.path_index.specs.Overlap.{places}
-use Rattle.template_expand.specs.declared.stage.Stage.{Stage}
+use Rattle.stage_schema.specs.declared.stage.Stage.{Stage}
 use Rattle.stage_graph.specs.Makers.{is_maker}
 use Rattle.stage_graph.specs.Paths.{outputs, needs, is_above}
 use Rattle.stage_graph.specs.declared.output.Output.{Output}

@@ -2,7 +2,7 @@
 use Rattle.std.proofs.Common.{ℕ, List, [], ◌∷◌, ◌++◌, map, take, sym, ap, ◌∙◌}
 use Rattle.std.proofs.lemmas.List.{map_more}
 use Rattle.path_index.specs.Overlap.{places}
-use Rattle.template_expand.specs.declared.stage.Stage.{Stage}
+use Rattle.stage_schema.specs.declared.stage.Stage.{Stage}
 use Rattle.stage_graph.specs.Paths.{is_above}
 use Rattle.stage_graph.proofs.edges.all_above.Goals as goal
 

@@ -1,7 +1,7 @@
 -- The outputs are those of the stage.
 use Rattle.std.proofs.Common.{List, ◌++◌, ap, ◌∙◌}
 use Rattle.std.proofs.lemmas.Result.{on_ok_weaker}
-use Rattle.template_expand.specs.declared.stage.Out.{Out}
+use Rattle.stage_schema.specs.declared.stage.Out.{Out}
 use Rattle.stage_graph.specs.Paths.{outputs_in}
 use Rattle.stage_graph.proofs.output.push_stage.Goals as goal
 

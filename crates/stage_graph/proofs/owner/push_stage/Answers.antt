@@ -1,7 +1,7 @@
 -- The owners are those of the stage.
 use Rattle.std.proofs.Common.{ℕ, List, ◌++◌, ap, ◌∙◌}
 use Rattle.std.proofs.lemmas.Result.{on_ok_weaker}
-use Rattle.template_expand.specs.declared.stage.Out.{Out}
+use Rattle.stage_schema.specs.declared.stage.Out.{Out}
 use Rattle.stage_graph.specs.Paths.{owners_of_outs}
 use Rattle.stage_graph.proofs.owner.push_stage.Goals as goal
 

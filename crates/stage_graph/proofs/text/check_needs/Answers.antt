@@ -1,6 +1,6 @@
 -- No dependency is at fault, so that of a parameter file is due.
 use Rattle.std.proofs.Common.{◌≡◌, ℕ, List, None, sym, ap, ◌∙◌}
-use Rattle.template_expand.specs.declared.stage.ParamWant.{ParamWant}
+use Rattle.stage_schema.specs.declared.stage.ParamWant.{ParamWant}
 use Rattle.stage_graph.specs.Fault.{first_of}
 use Rattle.stage_graph.specs.Texts.{text_fault}
 use Rattle.stage_graph.proofs.FaultLemmas.{after_none, checks_same}

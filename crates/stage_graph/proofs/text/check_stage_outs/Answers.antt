@@ -1,6 +1,6 @@
 -- The texts are those of the stage.
 use Rattle.std.proofs.Common.{List, ap}
-use Rattle.template_expand.specs.declared.stage.Out.{Out}
+use Rattle.stage_schema.specs.declared.stage.Out.{Out}
 use Rattle.stage_graph.specs.Fault.{first_of}
 use Rattle.stage_graph.specs.Texts.{text_fault}
 use Rattle.stage_graph.proofs.FaultLemmas.{checks_same}

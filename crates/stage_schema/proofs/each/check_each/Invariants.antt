@@ -1,0 +1,8 @@
+use Rattle.std.proofs.Common.{◌≡◌, drop}
+use Rattle.stage_schema.specs.Refusal.{first_in}
+use Rattle.stage_schema.specs.Schema.{each_value_fault}
+use Rattle.stage_schema.proofs.each.check_each.Given as goal
+
+-- the refusal that is due is that of the pairs that are left
+abbrev pub invariant-loop-pair : goal.invariant-loop-pair
+invariant-loop-pair l = first_in (each_value_fault l.name) l.pairs ≡ first_in (each_value_fault l.name) (drop l.pair-index l.pairs)

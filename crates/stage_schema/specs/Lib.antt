@@ -1,0 +1,6 @@
+pub mod Node
+pub mod Refusal
+pub mod Schema
+pub mod Params
+pub mod Stages
+pub mod Wanted

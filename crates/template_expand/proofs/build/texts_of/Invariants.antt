@@ -1,7 +1,0 @@
-use Rattle.std.proofs.Common.{◌≡◌, take}
-use Rattle.template_expand.specs.Params.{texts_of}
-use Rattle.template_expand.proofs.build.texts_of.Given as goal
-
--- the texts so far
-abbrev pub invariant-loop-item : goal.invariant-loop-item
-invariant-loop-item l = l.texts ≡ texts_of (take l.item-index l.items)

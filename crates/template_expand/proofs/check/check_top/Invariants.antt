@@ -1,8 +1,0 @@
-use Rattle.std.proofs.Common.{◌≡◌, drop}
-use Rattle.template_expand.specs.Refusal.{first_in}
-use Rattle.template_expand.specs.Schema.{top_fault}
-use Rattle.template_expand.proofs.check.check_top.Given as goal
-
--- the refusal that is due is that of the pairs that are left
-abbrev pub invariant-loop-pair : goal.invariant-loop-pair
-invariant-loop-pair l = first_in top_fault l.pairs ≡ first_in top_fault (drop l.pair-index l.pairs)

@@ -1,8 +1,0 @@
-use Rattle.std.proofs.Common.{◌≡◌, drop}
-use Rattle.template_expand.specs.Refusal.{first_in}
-use Rattle.template_expand.specs.Schema.{value_fault}
-use Rattle.template_expand.proofs.check.check_values.Given as goal
-
--- the refusal that is due is that of the pairs that are left
-abbrev pub invariant-loop-pair : goal.invariant-loop-pair
-invariant-loop-pair l = first_in (value_fault l.name) l.pairs ≡ first_in (value_fault l.name) (drop l.pair-index l.pairs)

@@ -1,8 +1,0 @@
-use Rattle.std.proofs.Common.{◌≡◌, drop}
-use Rattle.template_expand.specs.Refusal.{first_in}
-use Rattle.template_expand.specs.Schema.{option_fault}
-use Rattle.template_expand.proofs.outs.check_options.Given as goal
-
--- the refusal that is due is that of the options that are left
-abbrev pub invariant-loop-option : goal.invariant-loop-option
-invariant-loop-option l = first_in (option_fault l.name l.key l.path) l.options ≡ first_in (option_fault l.name l.key l.path) (drop l.option-index l.options)

@@ -1,9 +1,0 @@
-use Rattle.std.proofs.Common.{◌≡◌, drop}
-use Rattle.dvc_base.specs.declared.node.Node.{out-Node}
-use Rattle.template_expand.specs.Refusal.{first_in}
-use Rattle.template_expand.specs.Schema.{param_fault}
-use Rattle.template_expand.proofs.params.check_params.Given as goal
-
--- the refusal that is due is that of the items that are left
-abbrev pub invariant-loop-item : goal.invariant-loop-item
-invariant-loop-item l = first_in (λ item. param_fault l.name l.key (out-Node item)) l.items ≡ first_in (λ item. param_fault l.name l.key (out-Node item)) (drop l.item-index l.items)
