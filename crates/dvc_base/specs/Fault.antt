@@ -53,7 +53,6 @@ kind_of (f.UnknownListing _) = k.UnknownListing
 kind_of (f.NotMoved _ _ _) = k.NotMoved
 kind_of (f.Changed _ _ _) = k.Changed
 kind_of (f.TooLarge _ _) = k.TooLarge
-kind_of (f.NotBuilt _) = k.NotBuilt
 kind_of f.WorldFault = k.WorldFault
 kind_of f.OutFault = k.OutFault
 
@@ -94,9 +93,8 @@ place_of_kind k.UnknownListing = 31
 place_of_kind k.NotMoved = 32
 place_of_kind k.Changed = 33
 place_of_kind k.TooLarge = 34
-place_of_kind k.NotBuilt = 35
-place_of_kind k.WorldFault = 36
-place_of_kind k.OutFault = 37
+place_of_kind k.WorldFault = 35
+place_of_kind k.OutFault = 36
 
 abbrev pub is_one_of : List FaultKind → FaultKind → Bool
 is_one_of kinds kind = list_any (λ k. place_of_kind k == place_of_kind kind) kinds
@@ -167,7 +165,6 @@ wording_of (f.UnknownListing name) = with_two (codes "listing '") name.digits []
 wording_of (f.NotMoved absent damaged failed) = with_three (codes "not moved: ") (decimal absent) (codes " absent, ") (decimal damaged) (codes " damaged, ") (decimal failed) (codes " failed")
 wording_of (f.Changed path told found) = with_one (codes "'") (path_text path) (codes "' changed while it was read")
 wording_of (f.TooLarge what limit) = with_one (codes "limit ") (decimal limit) (codes " passed")
-wording_of (f.NotBuilt file) = with_one (codes "'") (path_text file) (codes "' is not supported yet")
 wording_of f.WorldFault = plain (codes "a file or program call failed")
 wording_of f.OutFault = plain (codes "the output can't be written")
 

@@ -161,10 +161,6 @@ pub enum Fault {
         what: What,
         limit: u64,
     },
-    /// What stands at the path is beyond what the tool can do so far.
-    NotBuilt {
-        file: Rel,
-    },
     /// A call to the files or to a program failed.
     WorldFault,
     /// The output could not be written.
@@ -209,7 +205,6 @@ pub enum FaultKind {
     NotMoved,
     Changed,
     TooLarge,
-    NotBuilt,
     WorldFault,
     OutFault,
 }
@@ -256,7 +251,6 @@ impl Fault {
             Fault::NotMoved { .. } => FaultKind::NotMoved,
             Fault::Changed { .. } => FaultKind::Changed,
             Fault::TooLarge { .. } => FaultKind::TooLarge,
-            Fault::NotBuilt { .. } => FaultKind::NotBuilt,
             Fault::WorldFault => FaultKind::WorldFault,
             Fault::OutFault => FaultKind::OutFault,
         }
@@ -343,7 +337,6 @@ impl Fault {
             | Fault::Unsaved { path }
             | Fault::NotFolder { path }
             | Fault::Changed { path, .. }
-            | Fault::NotBuilt { file: path }
             | Fault::Reserved { path, .. } => Part::of(path.text()),
             Fault::NoVariable { key: text }
             | Fault::NotScalar { key: text }
@@ -388,7 +381,6 @@ impl Fault {
             Fault::NotMoved { .. } => " absent, ",
             Fault::Changed { .. } => "' changed while it was read",
             Fault::TooLarge { .. } => " passed",
-            Fault::NotBuilt { .. } => "' is not supported yet",
             Fault::NoVariable { .. }
             | Fault::NoStage { .. }
             | Fault::MissingSource { .. }

@@ -14,8 +14,8 @@ use Rattle.dvc_base.specs.declared.fault.Fault.TheVariants as f
 use Rattle.dvc_base.specs.declared.path.PathFault.{PathFault}
 use Rattle.world_api.specs.Effect.{path_or_root, path_from}
 use Rattle.world_api.specs.Layout.{dvc_path, lock_path, yaml_path}
-use Rattle.template_expand.specs.declared.stage.Out.{Out as WrittenOut}
-use Rattle.template_expand.specs.declared.stage.Stage.{Stage as Written}
+use Rattle.stage_schema.specs.declared.stage.Out.{Out as WrittenOut}
+use Rattle.stage_schema.specs.declared.stage.Stage.{Stage as Written}
 use Rattle.stage_graph.specs.Clash.{clash_of, clash_with, clash_after, clash_fault, made_fault}
 use Rattle.stage_graph.specs.Cycle.{cycle_fault}
 use Rattle.stage_graph.specs.Fault.{first_of}
@@ -164,9 +164,8 @@ all_clear : (ss : List Written) → AllByRecursion IsWritten ss → AllByRecursi
 all_clear [] a c d e g h i = tt
 all_clear (s ∷ ss) a c d e g h i = (clear s a.0 c.0 d.0 e.0 g.0 h.0 i.0, all_clear ss a.1 c.1 d.1 e.1 g.1 h.1 i.1)
 
-pub are_clear : (ss : List Written) → AllByRecursion IsWritten ss → plan_fault ss ≡ None → AreClear ss
-are_clear ss written h =
-    let vars : List Path = [] in
+pub are_clear : (vars : List Path) (ss : List Written) → AllByRecursion IsWritten ss → plan_fault vars ss ≡ None → AreClear ss
+are_clear vars ss written h =
     let a : Option Fault = outside_fault ss [] in
     let owned : List Path = owner_paths (owners ss []) in
     let b : Option Fault = reserved_fault owned ss [] vars [] in

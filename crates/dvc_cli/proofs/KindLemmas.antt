@@ -14,14 +14,14 @@ use Rattle.dvc_base.specs.declared.fault.Fault.TheVariants as f
 use Rattle.dvc_base.specs.declared.path.PathFault.{PathFault}
 use Rattle.stage_order.specs.Order.{is_in, order}
 use Rattle.stage_order.specs.Walk.{first_walk}
-use Rattle.template_expand.specs.declared.stage.Out.{Out}
-use Rattle.template_expand.specs.declared.stage.ParamWant.{ParamWant}
-use Rattle.template_expand.specs.declared.stage.Stage.{Stage as Written}
+use Rattle.stage_schema.specs.declared.stage.Out.{Out}
+use Rattle.stage_schema.specs.declared.stage.ParamWant.{ParamWant}
+use Rattle.stage_schema.specs.declared.stage.Stage.{Stage as Written}
 use Rattle.stage_graph.specs.Clash.{clash_of, clash_with, clash_after, clash_fault, params_path, made_by, made_fault}
 use Rattle.stage_graph.specs.Cycle.{all_above, names_of, cycle_fault}
 use Rattle.stage_graph.specs.Fault.{first_of}
 use Rattle.stage_graph.specs.Graph.{graph_fault}
-use Rattle.stage_graph.specs.Kept.{tool_paths, file_paths, near_fault, itself_if, has_track_name, name_fault, dir_fault, tool_fault, file_fault, reserved_fault}
+use Rattle.stage_graph.specs.Kept.{tool_paths, file_paths, near_fault, itself_if, has_track_name, is_track, name_fault, dir_fault, tool_fault, file_fault, var_fault, reserved_fault}
 use Rattle.stage_graph.specs.Paths.{needs, owners, owner_paths, outputs, output_paths}
 use Rattle.stage_graph.specs.Texts.{join_fault, text_fault, out_texts, need_texts, outside_fault}
 use Rattle.stage_graph.specs.declared.owner.Owner.{Owner}
@@ -81,15 +81,20 @@ tool_fits owned ss =
     (first_fits (near_fault tool_paths) (near_fits tool_paths) owned)
     (first_fits (λ (s : Written). first_of (near_fault tool_paths) (needs s)) (λ s. first_fits (near_fault tool_paths) (near_fits tool_paths) (needs s)) ss)
 
-reserved_fits : (owned : List Path) (ss : List Written) → Fits (reserved_fault owned ss [] [] [])
-reserved_fits owned ss =
+var_fits : (p : Path) → Fits (var_fault [] p)
+var_fits p =
+    or_fits (near_fault tool_paths p) (itself_if (is_track [] p) p) (near_fits tool_paths p) (itself_fits (is_track [] p) p)
+
+reserved_fits : (vars owned : List Path) (ss : List Written) → Fits (reserved_fault owned ss [] vars [])
+reserved_fits vars owned ss =
     let dirs : Option Fault = first_of dir_fault ss in
+    let read : Option Fault = first_of (var_fault []) vars in
     let names : Option Fault = first_of name_fault owned in
     let files : Option Fault = file_fault [] [] owned in
-    or_fits (tool_fault owned ss) (option_or files (option_or names (option_or dirs None))) (tool_fits owned ss)
-    (or_fits files (option_or names (option_or dirs None)) (first_fits (near_fault (file_paths [] [])) (near_fits (file_paths [] [])) owned)
-    (or_fits names (option_or dirs None) (first_fits name_fault (λ p. itself_fits (has_track_name p) p) owned)
-    (or_fits dirs None (first_fits dir_fault dir_fits ss) tt)))
+    or_fits (tool_fault owned ss) (option_or files (option_or names (option_or dirs read))) (tool_fits owned ss)
+    (or_fits files (option_or names (option_or dirs read)) (first_fits (near_fault (file_paths [] [])) (near_fits (file_paths [] [])) owned)
+    (or_fits names (option_or dirs read) (first_fits name_fault (λ p. itself_fits (has_track_name p) p) owned)
+    (or_fits dirs read (first_fits dir_fault dir_fits ss) (first_fits (var_fault []) var_fits vars))))
 
 -- ---- owners that overlap, variables, and cycles
 
@@ -107,33 +112,33 @@ clash_fits earlier (o ∷ later) =
     (map_fits (λ (first : Owner). clash_of first o) (λ first. clash_of_fits first o) (find (λ first. overlap first.path o.path) earlier))
     (clash_fits (earlier ++ o ∷ []) later)
 
-made_fits : (ss : List Written) → Fits (made_fault ss [])
-made_fits ss =
+made_fits : (vars : List Path) (ss : List Written) → Fits (made_fault ss vars)
+made_fits vars ss =
     let outs = output_paths (outputs ss) in
-    first_fits (made_by outs) (λ file. map_fits (f.VarsFromOutput file) (λ out. refl) (find (λ out. overlap out file) outs)) (params_path ∷ [])
+    first_fits (made_by outs) (λ file. map_fits (f.VarsFromOutput file) (λ out. refl) (find (λ out. overlap out file) outs)) (params_path ∷ vars)
 
 cycle_fits : (ss : List Written) → Fits (cycle_fault ss)
 cycle_fits ss = map_fits (λ (ns : List ℕ). f.Cycle (names_of ss ns)) (λ ns. refl) (first_walk (all_above ss) (is_in (order (all_above ss))))
 
-graph_fits : (ss : List Written) → Fits (graph_fault ss [] [] [])
-graph_fits ss =
+graph_fits : (vars : List Path) (ss : List Written) → Fits (graph_fault ss [] vars [])
+graph_fits vars ss =
     let a : Option Fault = outside_fault ss [] in
-    let b : Option Fault = reserved_fault (owner_paths (owners ss [])) ss [] [] [] in
+    let b : Option Fault = reserved_fault (owner_paths (owners ss [])) ss [] vars [] in
     let c : Option Fault = clash_fault (owners ss []) in
-    let d : Option Fault = made_fault ss [] in
+    let d : Option Fault = made_fault ss vars in
     let e : Option Fault = cycle_fault ss in
     or_fits a (option_or b (option_or c (option_or d (option_or e None)))) (outside_fits ss)
-    (or_fits b (option_or c (option_or d (option_or e None))) (reserved_fits (owner_paths (owners ss [])) ss)
+    (or_fits b (option_or c (option_or d (option_or e None))) (reserved_fits vars (owner_paths (owners ss [])) ss)
     (or_fits c (option_or d (option_or e None)) (clash_fits [] (owners ss []))
-    (or_fits d (option_or e None) (made_fits ss) (or_fits e None (cycle_fits ss) tt))))
+    (or_fits d (option_or e None) (made_fits vars ss) (or_fits e None (cycle_fits ss) tt))))
 
-pub plan_kind : (ss : List Written) (fault : Fault) → graph_fault ss [] [] [] ≡ Some fault → MayBe plan_kinds (Some fault)
-plan_kind ss fault told = subst (MayBe plan_kinds) told (graph_fits ss)
+pub plan_kind : (vars : List Path) (ss : List Written) (fault : Fault) → graph_fault ss [] vars [] ≡ Some fault → MayBe plan_kinds (Some fault)
+plan_kind vars ss fault told = subst (MayBe plan_kinds) told (graph_fits vars ss)
 
 -- want of memory is one of the plan's as well
-pub told_kind : (ss : List Written) (fault : Fault) → (fault ≡ f.NoMemory) ⊎ (graph_fault ss [] [] [] ≡ Some fault) → MayBe plan_kinds (Some fault)
-told_kind ss fault (inl memory) = subst (λ (x : Fault). MayBe plan_kinds (Some x)) (sym memory) refl
-told_kind ss fault (inr told) = plan_kind ss fault told
+pub told_kind : (vars : List Path) (ss : List Written) (fault : Fault) → (fault ≡ f.NoMemory) ⊎ (graph_fault ss [] vars [] ≡ Some fault) → MayBe plan_kinds (Some fault)
+told_kind vars ss fault (inl memory) = subst (λ (x : Fault). MayBe plan_kinds (Some x)) (sym memory) refl
+told_kind vars ss fault (inr told) = plan_kind vars ss fault told
 
 -- the exit of a step
 pub kinds_err : {T : Type 0} (r : Result T Fault) (y fault : Fault) → r ≡ Err y → y ≡ fault → MayBe plan_kinds (Some fault) → MayBe plan_kinds (fault_in r)

@@ -13,3 +13,4 @@ pub mod TakesLemmas
 pub mod AnswerLemmas
 pub mod CommandLemmas
 pub mod LifeLaw
+pub mod VarLemmas

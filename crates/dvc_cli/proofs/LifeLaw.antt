@@ -22,8 +22,10 @@ use Rattle.repro_laws.specs.declared.stage.Stage.{Stage}
 use Rattle.repro_laws.proofs.AllLaws.{sounds}
 use Rattle.repro_laws.proofs.StopLaw.{stops}
 use Rattle.dvc_cli.specs.Plan.{plan_of, AreUsable}
-use Rattle.dvc_cli.specs.Read.{text_at, node_or, root_of}
-use Rattle.dvc_cli.specs.Workspace.{plan_by_root, stages_in, workspace_fault, Workspace, workspace_by, workspace_of}
+use Rattle.dvc_cli.specs.Read.{root_at}
+use Rattle.dvc_cli.specs.Workspace.{plan_by_vars, plan_by_root, stages_in, workspace_fault, Workspace, workspace_by, workspace_of}
+use Rattle.dvc_cli.specs.Vars.{vars_of}
+use Rattle.template_expand.specs.declared.files.VarFile.{VarFile}
 use Rattle.dvc_cli.specs.Command.{is_repro, workspace_due, no_flags, InWorkspace}
 use Rattle.dvc_cli.specs.Life.{IsFresh, IsEdit, IsStop, IsMet, fresh, edited, commanded, stopped, LivesAreSound, ToldBooksDo}
 use Rattle.dvc_cli.proofs.PlanLemmas.{plan_usable}
@@ -40,21 +42,16 @@ planned : (plan : Result (List Stage) Fault) (ss : List Stage) → result_ok pla
 planned (Ok found) ss e = ap Ok (same_stages found ss e)
 planned (Err fault) ss e = absurd (no_stages ss e)
 
-of_root : (root : Node) (stages : List Stage) → IsPrintable root → result_ok (plan_of root) ≡ Some stages → AreUsable stages
-of_root root stages printable e = plan_usable root stages printable (planned (plan_of root) stages e)
+of_files : (root : Node) (files : Result (List VarFile) Fault) (stages : List Stage) → result_ok (plan_by_vars root files) ≡ Some stages → AreUsable stages
+of_files root (Ok files) stages e = plan_usable root files stages (planned (plan_of root files) stages e)
+of_files root (Err fault) stages e = absurd (no_stages stages e)
 
-of_node : (text : List ℕ) (found : Result Node YamlFault) (stages : List Stage) → parse text ≡ found
-    → result_ok (plan_by_root (node_or found)) ≡ Some stages → AreUsable stages
-of_node text (Ok root) stages is e = of_root root stages (read_printable text root is) e
-of_node text (Err why) stages is e = absurd (no_stages stages e)
-
-of_text : (text : Result (Option (List ℕ)) Fault) (stages : List Stage) → result_ok (plan_by_root (root_of text)) ≡ Some stages → AreUsable stages
-of_text (Ok None) stages e = of_root Null stages (sound_null max_depth) e
-of_text (Ok (Some text)) stages e = of_node text (parse text) stages refl e
-of_text (Err fault) stages e = absurd (no_stages stages e)
+of_root : (t : Tree) (read : Result Node Fault) (stages : List Stage) → result_ok (plan_by_root t read) ≡ Some stages → AreUsable stages
+of_root t (Ok root) stages e = of_files root (vars_of t root) stages e
+of_root t (Err fault) stages e = absurd (no_stages stages e)
 
 pub stages_usable : (t : Tree) (stages : List Stage) → stages_in t ≡ Some stages → AreUsable stages
-stages_usable t stages e = of_text (text_at yaml_path (item_at t yaml_path)) stages e
+stages_usable t stages e = of_root t (root_at (item_at t yaml_path)) stages e
 
 -- ---- what a command's workspace says
 

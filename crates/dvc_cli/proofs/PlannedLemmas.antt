@@ -7,7 +7,7 @@ use Rattle.std.proofs.lemmas.List.{take_more, map-append}
 use Rattle.std.proofs.lemmas.List.Elements.{filter-append, filter_map-append}
 use Rattle.std.proofs.lemmas.Grind.{flat_map-append}
 use Rattle.dvc_base.specs.Path.{Path}
-use Rattle.template_expand.specs.declared.stage.Stage.{Stage as Written}
+use Rattle.stage_schema.specs.declared.stage.Stage.{Stage as Written}
 use Rattle.repro_laws.specs.declared.stage.Stage.{Stage}
 use Rattle.stage_graph.specs.Paths.{stage_outs}
 use Rattle.dvc_cli.specs.Plan.{stage_of, has_turn, with_turns, all_outs, stages_at}

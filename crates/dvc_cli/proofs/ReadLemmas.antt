@@ -5,7 +5,7 @@ use Rattle.std.specs.Result.{result_ok}
 use Rattle.dvc_base.specs.Limits.{limit_of}
 use Rattle.dvc_base.specs.declared.limits.What.TheVariants.{YamlText}
 use Rattle.dvc_base.specs.declared.fault.Fault.{Fault}
-use Rattle.dvc_base.specs.declared.fault.Fault.TheVariants.{NotBuilt, TooLarge}
+use Rattle.dvc_base.specs.declared.fault.Fault.TheVariants.{NoFile, TooLarge}
 use Rattle.world_api.specs.Tree.{Tree, Item, folder, file, item_at}
 use Rattle.world_api.specs.Layout.{lock_path}
 use Rattle.lock_files.specs.Book.{Lock}
@@ -31,7 +31,7 @@ by_length false text lock e = by_reading (lock_read text) lock e
 
 by_item : (item : Option Item) (lock : Lock) → book_at item ≡ Ok lock → lock_by item ≡ Some lock
 by_item None lock e = ok_lock [] lock e
-by_item (Some folder) lock e = absurd (err_lock (NotBuilt lock_path) lock e)
+by_item (Some folder) lock e = absurd (err_lock (NoFile lock_path) lock e)
 by_item (Some (file text)) lock e = by_length (nat_lt (limit_of YamlText) (length text)) text lock e
 
 pub remembered : (t : Tree) (lock : Lock) → book_at (item_at t lock_path) ≡ Ok lock → lock_of t ≡ Some lock

@@ -10,7 +10,7 @@ use Rattle.path_index.specs.Overlap.{places, places_from}
 use Rattle.stage_order.specs.Closure.{StandsBehind}
 use Rattle.stage_order.specs.Order.{is_in, above_of, order}
 use Rattle.stage_order.specs.Walk.{first_left, walk, first_walk}
-use Rattle.template_expand.specs.declared.stage.Stage.{Stage as Written}
+use Rattle.stage_schema.specs.declared.stage.Stage.{Stage as Written}
 use Rattle.dvc_base.specs.declared.fault.Fault.TheVariants as f
 use Rattle.stage_graph.specs.Cycle.{all_above, names_of, cycle_fault}
 use Rattle.stage_graph.specs.Paths.{is_above}

@@ -20,9 +20,9 @@ use Rattle.stage_order.specs.Closure.{StandsBehind}
 use Rattle.stage_order.specs.Order.{is_in, order}
 use Rattle.stage_order.proofs.ClosureLemmas.{behind_order}
 use Rattle.lock_files.specs.Form as form
-use Rattle.template_expand.specs.declared.stage.Out.{Out as WrittenOut}
-use Rattle.template_expand.specs.declared.stage.ParamWant.{ParamWant}
-use Rattle.template_expand.specs.declared.stage.Stage.{Stage as Written}
+use Rattle.stage_schema.specs.declared.stage.Out.{Out as WrittenOut}
+use Rattle.stage_schema.specs.declared.stage.ParamWant.{ParamWant}
+use Rattle.stage_schema.specs.declared.stage.Stage.{Stage as Written}
 use Rattle.stage_graph.specs.Cycle.{all_above}
 use Rattle.stage_graph.specs.Paths.{needs, makes, is_above, stage_outs}
 use Rattle.repro_laws.specs.Stage.{dep_path, out_path, tracked_path, dep_text, out_text, tracked_text, read_paths, stage_outs as made_paths, Names, IsStage}

@@ -1,4 +1,5 @@
 pub mod Plan
+pub mod Vars
 pub mod Read
 pub mod Workspace
 pub mod Tell

@@ -3,7 +3,7 @@
 --     stages_at ss ns       the stages at some places, in the order in which these are named
 --     planned ss            the stages that have turns, in their order: all but the frozen ones
 --     schema_answer why     the answer to a refusal of the schema
---     plan_of root          the stages of a node
+--     plan_of root files    the stages of a node, with these files of variables
 --     AreUsable stages      what is so of the stages of a plan
 use Rattle.std.specs.Prelude.{ℕ, Bool, not, ◌&&◌, ◌||◌, List, [], map, length, slice_get, Option, Some, None, Result, Ok, Err, ◌==◌, if◌then◌else◌}
 use Rattle.std.specs.List.{AllByRecursion, list_any, filter, filter_map, flat_map}
@@ -17,11 +17,12 @@ use Rattle.world_api.specs.Effect.{path_from}
 use Rattle.world_api.specs.Layout.{yaml_path}
 use Rattle.lock_files.specs.Order.{in_order}
 use Rattle.template_expand.specs.Expansion.{expansion}
-use Rattle.template_expand.specs.declared.fault.ExpandFault.{ExpandFault}
-use Rattle.template_expand.specs.declared.fault.ExpandFault.TheVariants as e
-use Rattle.template_expand.specs.declared.stage.Out.{Out as WrittenOut}
-use Rattle.template_expand.specs.declared.stage.ParamWant.{ParamWant}
-use Rattle.template_expand.specs.declared.stage.Stage.{Stage as Written}
+use Rattle.template_expand.specs.declared.files.VarFile.{VarFile}
+use Rattle.stage_schema.specs.declared.fault.ExpandFault.{ExpandFault}
+use Rattle.stage_schema.specs.declared.fault.ExpandFault.TheVariants as e
+use Rattle.stage_schema.specs.declared.stage.Out.{Out as WrittenOut}
+use Rattle.stage_schema.specs.declared.stage.ParamWant.{ParamWant}
+use Rattle.stage_schema.specs.declared.stage.Stage.{Stage as Written}
 use Rattle.stage_order.specs.Order.{order}
 use Rattle.stage_graph.specs.Cycle.{all_above}
 use Rattle.stage_graph.specs.Graph.{graph_fault}
@@ -102,25 +103,31 @@ schema_answer (e.Schema key) = f.Schema yaml_path key
 schema_answer (e.Unsupported key) = f.Unsupported yaml_path key
 schema_answer (e.Outside text why) = f.Outside text why
 schema_answer (e.TooMany count) = f.TooLarge w.Stages (limit_of w.Stages)
-schema_answer e.NotBuilt = f.NotBuilt yaml_path
+schema_answer (e.NoVariable key) = f.NoVariable key
+schema_answer (e.NotScalar key) = f.NotScalar key
+schema_answer (e.NoFile file) = f.NoFile file
+schema_answer (e.NoKey file key) = f.NoKey file key
 schema_answer e.NoMemory = f.NoMemory
 
 -- ---- the plan
 
--- the refusals of the graph. Track files, files of variables and ignore rules aren't read yet
-abbrev pub plan_fault : List Written → Option Fault
-plan_fault ss = graph_fault ss [] [] []
+-- the refusals of the graph, where `vars` are the files of variables. Track files and ignore rules aren't read yet
+abbrev pub plan_fault : List Path → List Written → Option Fault
+plan_fault vars ss = graph_fault ss [] vars []
 
 abbrev pub stages_unless : Option Fault → List Written → Result (List Stage) Fault
 stages_unless None ss = Ok (planned ss)
 stages_unless (Some fault) ss = Err fault
 
-abbrev pub plan_by : Result (List Written) ExpandFault → Result (List Stage) Fault
-plan_by (Ok ss) = stages_unless (plan_fault ss) ss
-plan_by (Err why) = Err (schema_answer why)
+abbrev pub plan_by : List Path → Result (List Written) ExpandFault → Result (List Stage) Fault
+plan_by vars (Ok ss) = stages_unless (plan_fault vars ss) ss
+plan_by vars (Err why) = Err (schema_answer why)
 
-unfoldable pub plan_of : Node → Result (List Stage) Fault
-plan_of root = plan_by (expansion root)
+abbrev pub var_path : VarFile → Path
+var_path v = v.file
+
+unfoldable pub plan_of : Node → List VarFile → Result (List Stage) Fault
+plan_of root files = plan_by (map var_path files) (expansion root files)
 
 pub record AreUsable (stages : List Stage) : Type 0 where
   pub planned : IsPlanned is_own stages

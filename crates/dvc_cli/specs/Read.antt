@@ -33,7 +33,7 @@ short_text text = if nat_lt (limit_of YamlText) (length text) then Err (f.TooLar
 
 abbrev pub text_at : Path → Option Item → Result (Option (List ℕ)) Fault
 text_at at None = Ok None
-text_at at (Some folder) = Err (f.NotBuilt at)
+text_at at (Some folder) = Err (f.NoFile at)
 text_at at (Some (file text)) = short_text text
 
 -- a change of size is told of the file that was read, with the size that was told before

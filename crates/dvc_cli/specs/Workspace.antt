@@ -17,17 +17,24 @@ use Rattle.lock_files.specs.Book.{Lock}
 use Rattle.repro_laws.specs.Refusals.{first_fault}
 use Rattle.repro_laws.specs.Sound.{lock_of}
 use Rattle.repro_laws.specs.declared.stage.Stage.{Stage}
+use Rattle.template_expand.specs.declared.files.VarFile.{VarFile}
+use Rattle.repro_core.specs.Steps.{tracked_kinds}
 use Rattle.dvc_cli.specs.Plan.{plan_of}
+use Rattle.dvc_cli.specs.Vars.{vars_of}
 use Rattle.dvc_cli.specs.Read.{root_at, book_at}
 
 -- ---- its stages
 
-abbrev pub plan_by_root : Result Node Fault → Result (List Stage) Fault
-plan_by_root (Ok root) = plan_of root
-plan_by_root (Err fault) = Err fault
+abbrev pub plan_by_vars : Node → Result (List VarFile) Fault → Result (List Stage) Fault
+plan_by_vars root (Ok files) = plan_of root files
+plan_by_vars root (Err fault) = Err fault
+
+abbrev pub plan_by_root : Tree → Result Node Fault → Result (List Stage) Fault
+plan_by_root t (Ok root) = plan_by_vars root (vars_of t root)
+plan_by_root t (Err fault) = Err fault
 
 abbrev pub plan_in : Tree → Result (List Stage) Fault
-plan_in t = plan_by_root (root_at (item_at t yaml_path))
+plan_in t = plan_by_root t (root_at (item_at t yaml_path))
 
 abbrev pub stages_in : Tree → Option (List Stage)
 stages_in t = result_ok (plan_in t)
@@ -39,28 +46,42 @@ abbrev pub parse_kinds : List FaultKind
 parse_kinds = k.NoMemory ∷ k.Yaml ∷ k.Schema ∷ k.Unsupported ∷ k.Legacy ∷ []
 
 abbrev pub file_kinds : List FaultKind
-file_kinds = k.WorldFault ∷ k.NotBuilt ∷ k.TooLarge ∷ k.Changed ∷ parse_kinds
+file_kinds = k.WorldFault ∷ k.NoFile ∷ k.TooLarge ∷ k.Changed ∷ parse_kinds
 
 abbrev pub graph_kinds : List FaultKind
 graph_kinds = k.NoMemory ∷ k.Outside ∷ k.Reserved ∷ k.Duplicate ∷ k.Overlap ∷ k.VarsFromOutput ∷ k.Cycle ∷ []
 
+abbrev pub schema_kinds : List FaultKind
+schema_kinds = k.NoVariable ∷ k.NotScalar ∷ k.NoFile ∷ k.NoKey ∷ k.TooLarge ∷ k.Schema ∷ k.Unsupported ∷ k.Outside ∷ k.NoMemory ∷ []
+
 abbrev pub plan_kinds : List FaultKind
-plan_kinds = k.NotBuilt ∷ k.TooLarge ∷ k.Schema ∷ k.Unsupported ∷ graph_kinds
+plan_kinds = schema_kinds ++ graph_kinds
+
+-- of files of variables
+abbrev pub vars_kinds : List FaultKind
+vars_kinds = tracked_kinds ++ schema_kinds
 
 abbrev pub read_kinds : List FaultKind
-read_kinds = k.NotFolder ∷ file_kinds ++ graph_kinds
+read_kinds = k.NotFolder ∷ file_kinds ++ plan_kinds
 
 -- a file stands where the folder of the tool's own has to be
 abbrev pub place_fault : Option Item → Option Fault
 place_fault (Some (file bytes)) = Some (NotFolder dvc_path)
 place_fault _ = None
 
--- the folder of the tool's own, the text of `dvc.yaml`, the lock, and then what `dvc.yaml` says
+-- behind the node of `dvc.yaml`: the files of variables, the lock, and then what `dvc.yaml` says
+abbrev pub rest_fault : Tree → Node → Option Fault
+rest_fault t root =
+    first_fault (fault_in (vars_of t root))
+    (first_fault (fault_in (book_at (item_at t lock_path))) (fault_in (plan_by_root t (Ok root))))
+
+abbrev pub rest_by_root : Tree → Result Node Fault → Option Fault
+rest_by_root t (Ok root) = rest_fault t root
+rest_by_root t (Err fault) = Some fault
+
+-- the folder of the tool's own, and the text of `dvc.yaml`, come before
 abbrev pub workspace_fault : Tree → Option Fault
-workspace_fault t =
-    first_fault (place_fault (item_at t dvc_path))
-    (first_fault (fault_in (root_at (item_at t yaml_path)))
-    (first_fault (fault_in (book_at (item_at t lock_path))) (fault_in (plan_in t))))
+workspace_fault t = first_fault (place_fault (item_at t dvc_path)) (rest_by_root t (root_at (item_at t yaml_path)))
 
 -- ---- what it is about
 

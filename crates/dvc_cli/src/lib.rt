@@ -11,6 +11,7 @@ mod planned;
 mod read;
 mod room;
 mod root;
+mod vars;
 mod workspace;
 
 pub use command::{Done, dvc};

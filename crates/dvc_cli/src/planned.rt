@@ -9,8 +9,8 @@ use crate::by_text::{deps_by_text, outs_by_text};
 use dvc_base::{NoMemory, PathFault, Plain, Plural, Rel, Rels, Text};
 use path_index::PathIndex;
 use repro_laws::{Dep, Out, Stage, Stages, Tracked};
+use stage_schema::{Out as WrittenOut, ParamWant, Stage as Written};
 use std::alloc::Global;
-use template_expand::{Out as WrittenOut, ParamWant, Stage as Written};
 
 /// The stages at these places, in this order, without the frozen ones.
 pub(crate) fn planned(alloc: Global, written: &[Written], order: &[u32]) -> Result<Stages, NoMemory>

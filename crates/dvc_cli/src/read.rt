@@ -34,7 +34,7 @@ pub(crate) fn read_text<F: ReadFiles>(
     match files.kind(at) {
         Ok(Kind::Missing) => Ok(None),
         Ok(Kind::File { size }) => read_short(alloc, files, at, size),
-        Ok(Kind::Folder) => Err(Fault::NotBuilt {
+        Ok(Kind::Folder) => Err(Fault::NoFile {
             file: at.copy(alloc)?,
         }),
         Err(_) => Err(Fault::WorldFault),

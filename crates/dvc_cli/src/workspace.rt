@@ -1,5 +1,5 @@
 // The workspace: its stages, and what is remembered of them.
-ghost use Rattle.std.specs.Prelude.{◌≡◌, IsTrue, IfOk, IsErrOf, Some};
+ghost use Rattle.std.specs.Prelude.{◌≡◌, IsTrue, IfOk, IsErrOf, Some, None, Ok};
 ghost use Rattle.dvc_base.specs.Answer.{fault_in, IsAnswer};
 ghost use Rattle.dvc_base.specs.Fault.{MayBe, IsHonest};
 ghost use Rattle.dvc_base.specs.declared.fault.Fault.TheVariants.{WorldFault};
@@ -11,12 +11,13 @@ ghost use Rattle.world_api.specs.Writes.{CanWrite};
 ghost use Rattle.lock_files.specs.Form.{IsBook};
 ghost use Rattle.repro_laws.specs.Sound.{lock_of};
 ghost use Rattle.dvc_cli.specs.Plan.{AreUsable};
-ghost use Rattle.dvc_cli.specs.Workspace.{stages_in, place_fault, workspace_fault, read_kinds};
+ghost use Rattle.dvc_cli.specs.Workspace.{stages_in, place_fault, plan_by_root, rest_fault, workspace_fault, read_kinds};
 
 use crate::book::read_book;
 use crate::plan::plan_of;
 use crate::root::read_root;
-use dvc_base::Fault;
+use crate::vars::read_vars;
+use dvc_base::{Fault, Node};
 use lock_files::LockBook;
 use repro_laws::Stages;
 use std::alloc::Global;
@@ -29,7 +30,8 @@ pub(crate) struct Workspace {
     pub(crate) lock: LockBook,
 }
 
-/// Reads `dvc.yaml` and `dvc.lock`. The lock's refusals come before those of what `dvc.yaml` says.
+/// Reads `dvc.yaml`, the files of variables that it names, and `dvc.lock`. The lock's refusals come before those of what
+/// `dvc.yaml` says.
 // Its buffers are no part of the caller's frame, which stays during the turns.
 #[inline(never)]
 pub(crate) fn read_workspace<F: ReadFiles>(alloc: Global, files: &mut F) -> Result<Workspace, Fault>
@@ -50,9 +52,33 @@ pub(crate) fn read_workspace<F: ReadFiles>(alloc: Global, files: &mut F) -> Resu
 {
     check_place(alloc, files)?;
     let root = read_root(alloc, files)?;
+    read_rest(alloc, files, &root)
+}
+
+// What is read behind the node of `dvc.yaml`: the files of variables, and the lock. Then the stages are told.
+fn read_rest<F: ReadFiles>(alloc: Global, files: &mut F, root: &Node) -> Result<Workspace, Fault>
+    requires place { IsTrue F.tells → place_fault (item_at (tree_of (F.history files.old)) dvc_path) ≡ None }
+    ensures ready { IfOk result (λ workspace. AreUsable workspace.stages) }
+    ensures form { IfOk result (λ workspace. IsBook workspace.lock) }
+    ensures planned { IsTrue F.tells → IfOk result (λ workspace.
+        plan_by_root (tree_of (F.history files.old)) (Ok root.now) ≡ Ok workspace.stages) }
+    ensures remembered { IsTrue F.tells → IfOk result (λ workspace.
+        lock_of (tree_of (F.history files.old)) ≡ Some workspace.lock) }
+    ensures place { IsTrue F.tells → IfOk result (λ workspace.
+        CanWrite lock_path (tree_of (F.history files.old))) }
+    ensures answer { IsTrue F.tells →
+        IsAnswer (fault_in result) (rest_fault (tree_of (F.history files.old)) root.now) }
+    ensures unchanged { IsUntouched F.tells (F.history files.old) (F.history files.new) }
+    ensures kinds { MayBe read_kinds (fault_in result) }
+    ensures honest { IsHonest F.tells (fault_in result) }
+    ensures cause { IsCaused (F.faults files.old) (F.faults files.new) (IsErrOf result WorldFault) }
+{
+    let vars = read_vars(alloc, files, root)?;
     let lock = read_book(alloc, files)?;
-    let stages = plan_of(alloc, &root)?;
-    Ok(Workspace { stages, lock })
+    match plan_of(alloc, root, vars.as_slice()) {
+        Ok(stages) => Ok(Workspace { stages, lock }),
+        Err(fault) => Err(fault),
+    }
 }
 
 // The folder of the tool's own files may be missing, but no file may stand there.

@@ -4,7 +4,7 @@ mod KeyedLemmas
 mod LookLemmas
 mod OwnLemmas
 mod SeeLemmas
-mod TrackedLemmas
+pub mod TrackedLemmas
 pub mod ExitLemmas
 pub mod FirstLemmas
 pub mod GainLemmas

@@ -373,9 +373,9 @@ unfolding lock_path
 root_above_lock t = refl
 
 -- the lock that was written can be written again
-pub place_recorded : {T : Type 0} (written : Lock) (m n : Moment) (r : Result T Fault) → CanWrite lock_path m.tree → InRecord written m n → OnOk r (IsNewLock written n) → OnOk r (CanWrite lock_path n.tree)
-place_recorded written m n (Err fault) place write new = tt
-place_recorded written m n (Ok done) place write new =
+pub place_recorded : {T : Type 0} (next : Lock) (m n : Moment) (r : Result T Fault) → CanWrite lock_path m.tree → InRecord next m n → OnOk r (IsNewLock next n) → OnOk r (CanWrite lock_path n.tree)
+place_recorded next m n (Err fault) place write new = tt
+place_recorded next m n (Ok done) place write new =
     let lock = new.file in
     record {
       room = record { above = root_above_lock n.tree; no_folder = λ e. folder_file _ (sym e ∙ lock.stands) };
@@ -495,8 +495,8 @@ module _ (flags : Flags) (effect : Effect) (s : Stage) (ps : List ParamFile) (lo
       }
 
   pub turned_recorded : {T : Type 0} (r : Result T Fault) (new : Lock) → OnOk r (new ≡ lock_of_run) → OnOk r (IsNewLock lock_of_run now.present) → (r ≡ Err NoMemory → now ≡ put) → MayBe record_kinds (fault_in r) → Turned flags effect s Run lock new (fault_in r) old now
-  turned_recorded (Ok done) new is written untouched kind =
-      subst (λ (l : Lock). Turned flags effect s Run lock l None old now) (sym is) (whole_turn written)
-  turned_recorded (Err NoMemory) new is written untouched kind = stopped_turn new (untouched refl)
-  turned_recorded (Err WorldFault) new is written untouched kind = late_turn new
-  turned_recorded (Err _) new is written untouched kind = absurd (false≢true kind)
+  turned_recorded (Ok done) new is stored untouched kind =
+      subst (λ (l : Lock). Turned flags effect s Run lock l None old now) (sym is) (whole_turn stored)
+  turned_recorded (Err NoMemory) new is stored untouched kind = stopped_turn new (untouched refl)
+  turned_recorded (Err WorldFault) new is stored untouched kind = late_turn new
+  turned_recorded (Err _) new is stored untouched kind = absurd (false≢true kind)

@@ -1,4 +1,4 @@
-// What a turn sees before it chooses: what stands at the stage's dependencies and outputs.
+// What a turn sees before it chooses: what stands at the stage's dependencies and outputs, and its parameters.
 ghost use Rattle.std.specs.Prelude.{◌≡◌, length, map, Ok, IsTrue, IfOk, IsErrOf};
 ghost use Rattle.std.specs.List.{AllByRecursion};
 ghost use Rattle.dvc_base.specs.Answer.{fault_in, IsAnswer};

@@ -5,6 +5,6 @@ use Rattle.dvc_cli.proofs.plan.plan_of.Goals as goal
 
 pub plan_from-requires : goal.plan_from-requires
 plan_from-requires c =
-    let most : length c.in-Ok.written ≤ 10000 = few_stages c.args.root.now c.in-Ok.written c.in-Ok.ensures.read in
+    let most : length c.in-Ok.written ≤ 10000 = few_stages c.args.root.now c.args.files.now c.in-Ok.written c.in-Ok.ensures.answer in
     let same : length c.as_slice.result.now ≡ length c.in-Ok.written = ap length c.as_slice.ensures.same in
     record { few = omega (arith, most, same) }
