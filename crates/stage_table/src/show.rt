@@ -1,15 +1,9 @@
 // Stages and refusals in short.
-use dvc_base::{NoMemory, Text, Writer};
+use dvc_base::{NoMemory, Rel, Text, Writer};
 use template_expand::{ExpandFault, Out, ParamWant, Stage};
 
-/// Puts the stages, each with what it says, and whether more is asked than that outputs be made.
-pub(crate) fn show_stages(out: &mut Writer, stages: &[Stage], more: bool) -> Result<(), NoMemory> {
-    show_each(out, stages)?;
-    show_flag(out, more, "; asks more")
-}
-
-// `none` where there is none.
-fn show_each(out: &mut Writer, stages: &[Stage]) -> Result<(), NoMemory> {
+/// Puts the stages, each with what it says; `none` where there is none.
+pub(crate) fn show_stages(out: &mut Writer, stages: &[Stage]) -> Result<(), NoMemory> {
     if stages.is_empty() {
         return out.put(b"none");
     }
@@ -22,7 +16,7 @@ fn show_each(out: &mut Writer, stages: &[Stage]) -> Result<(), NoMemory> {
 
 fn show_stage(out: &mut Writer, stage: &Stage) -> Result<(), NoMemory> {
     put(out, stage.name.as_str())?;
-    put(out, stage.group.as_str())?;
+    show_group(out, stage.group.as_str())?;
     put(out, "{cmd: ")?;
     show_texts(out, stage.commands.as_slice())?;
     show_dir(out, stage.dir.text())?;
@@ -32,6 +26,15 @@ fn show_stage(out: &mut Writer, stage: &Stage) -> Result<(), NoMemory> {
     show_flag(out, stage.frozen, "; frozen")?;
     show_flag(out, stage.always, "; always")?;
     put(out, "}")
+}
+
+// A stage that no template made is in no group.
+fn show_group(out: &mut Writer, group: &str) -> Result<(), NoMemory> {
+    if group.is_empty() {
+        return Ok(());
+    }
+    put(out, " of ")?;
+    put(out, group)
 }
 
 fn show_texts(out: &mut Writer, texts: &[Text]) -> Result<(), NoMemory> {
@@ -104,9 +107,17 @@ pub(crate) fn show_fault(out: &mut Writer, fault: &ExpandFault) -> Result<(), No
         ExpandFault::Unsupported { key } => put_quoted(out, "unsupported '", key.as_str()),
         ExpandFault::Outside { text, .. } => put_quoted(out, "outside '", text.as_str()),
         ExpandFault::TooMany { count } => put_count(out, *count),
-        ExpandFault::NotBuilt => put(out, "not built"),
+        ExpandFault::NoVariable { key } => put_quoted(out, "no variable '", key.as_str()),
+        ExpandFault::NotScalar { key } => put_quoted(out, "not scalar '", key.as_str()),
+        ExpandFault::NoFile { file } => put_quoted(out, "no file '", file.text()),
+        ExpandFault::NoKey { file, key } => put_no_key(out, file, key),
         ExpandFault::NoMemory => Err(NoMemory),
     }
+}
+
+fn put_no_key(out: &mut Writer, file: &Rel, key: &Text) -> Result<(), NoMemory> {
+    put_quoted(out, "no key '", key.as_str())?;
+    put_quoted(out, " in '", file.text())
 }
 
 fn put_quoted(out: &mut Writer, word: &str, text: &str) -> Result<(), NoMemory> {

@@ -4,7 +4,7 @@ ghost use Rattle.std.specs.Prelude.{◌^◌, ◌≤◌};
 use crate::show::{show_fault, show_stages};
 use dvc_base::{NoMemory, Node, Writer, YamlFault};
 use std::alloc::Global;
-use template_expand::{asks_more, expand};
+use template_expand::{ExpandFault, Stages, expand, wanted_files};
 use yaml_profile::parse;
 
 /// The longest text that is read here.
@@ -76,10 +76,17 @@ fn put_outcome(alloc: Global, out: &mut Writer, sign: &[u8], text: &[u8]) -> Res
 }
 
 fn put_expansion(alloc: Global, out: &mut Writer, root: &Node) -> Result<(), NoMemory> {
-    match expand(alloc, root) {
-        Ok(stages) => show_stages(out, stages.as_slice(), asks_more(root)),
+    match stages_of(alloc, root) {
+        Ok(stages) => show_stages(out, stages.as_slice()),
         Err(fault) => show_fault(out, &fault),
     }
+}
+
+/// The stages of a node where no file of variables is there. What can't be gone without is refused first, as `dvc` does before
+/// it reads these files.
+fn stages_of(alloc: Global, root: &Node) -> Result<Stages, ExpandFault> {
+    wanted_files(alloc, root)?;
+    expand(alloc, root, &[])
 }
 
 /// The node of a text, for which there is memory up to a length that no row has.
