@@ -16,7 +16,7 @@ from dataclasses import dataclass
 
 HERE = os.path.dirname(os.path.abspath(__file__))
 sys.path.insert(0, os.path.join(HERE, "..", "checks"))
-from common import DVC, MIB, ROOM, entry, lock, need_built, seconds, stage, stages, write  # noqa: E402
+from common import DVC, MIB, ROOM, entry, lock, memory, need_built, seconds, stage, stages, write  # noqa: E402
 
 REPRO = [DVC, "repro"]
 
@@ -139,6 +139,25 @@ def skips(bench, folder):
     bench.row("3,000 stages with a file each, all skipped", folder, yardsticks)
 
 
+def grid(side, *keys):
+    """A stage that stands for each choice of a matrix of two, and is frozen, so that none has a turn."""
+    numbers = ", ".join(map(str, range(side)))
+    lines = ["  grid:", "    frozen: true", "    matrix:", f"      a: [{numbers}]", f"      b: [{numbers}]", "    cmd: echo ${item.a} ${item.b} ${key}", *keys]
+    return "\n".join(lines) + "\n"
+
+
+def matrix(bench, folder):
+    """Stages that a matrix makes, 100 and 10,000 of them."""
+    outs = ["    deps: [in]", "    outs: ['out/${key}']"]
+    for what, keys in (("", []), (" with an output each", outs)):
+        least = []
+        for side in (10, 100):
+            write(folder, "dvc.yaml", stages(grid(side, *keys)))
+            bench.row(f"{side * side:,} stages of a matrix{what}", folder, [], 3, most=2)
+            least.append(memory(REPRO, folder))
+        print(f"    {least[1] / MIB:.0f} MiB of memory, {(least[1] - least[0]) / 9_900:.0f} bytes for each stage more", flush=True)
+
+
 def falling_order(bench, folder):
     """A stage with many dependencies, the last one first."""
     names = [f"d{number:05}" for number in reversed(range(100_000))]
@@ -207,7 +226,7 @@ def puts_in_memory(bench, _):
         put(bench, folder, "on a disk in memory, without syncs", [])
 
 
-ROWS = [start_up, large_files, runs, skips, falling_order, long_locks, puts, puts_in_memory]
+ROWS = [start_up, large_files, runs, skips, matrix, falling_order, long_locks, puts, puts_in_memory]
 
 
 def main():

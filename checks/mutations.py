@@ -119,17 +119,19 @@ def spoilt_text(number):
     return name, text
 
 
+# A file of variables may be any file of the project.
 REFUSALS = {
-    "no YAML": r"'dvc\.(yaml|lock)' line \d+: (syntax|duplicate key|too deep|number too wide)",
-    "a bad value": r"'dvc\.(yaml|lock)': bad value at '.*'",
+    "no YAML": r"'.*' line \d+: (syntax|duplicate key|too deep|number too wide)",
+    "a bad value": r"'.*': bad value at '.*'",
     "left out": r"'dvc\.(yaml|lock)': '.*' is not supported",
     "an older format": r"'dvc\.lock' has an older format",
     "no path": r"'.*' is not a path of the workspace",
     "no graph": GRAPH,
-    "not built": r"'dvc\.yaml' is not supported yet",
+    "no variable": r"no variable '.*'|'.*' is not a scalar",
+    "no file": r"'.*' is missing|'.*' has no key '.*'",
 }
 # A fault of a turn, before which commands may have run.
-TURNS = r"'.*' is missing|'.*' has no key '.*'|stage '.*'(: missing (dependency|output) '.*'| failed with -?\d+)|'.*' is not a folder|a file or program call failed"
+TURNS = r"stage '.*'(: missing (dependency|output) '.*'| failed with -?\d+)|'.*' is not a folder|a file or program call failed"
 
 
 def kind_of(status, told):

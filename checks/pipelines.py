@@ -1,8 +1,9 @@
 #!/usr/bin/env python3
-"""Tries parameters, frozen stages and options of outputs over real files.
+"""Tries parameters, templates, frozen stages and options of outputs over real files.
 
-The example of docs/GUIDE.md, which has to stand there letter by letter; the edits of a parameter in a pipeline of four stages; each
-refusal of a file of parameters with its words; and hostile ones, which have to be read or refused within a time that grows with their
+The examples of docs/GUIDE.md, which have to stand there letter by letter; pipelines as DVC's documentation describes them, written
+anew: tracked parameters, `${model.lr}`, `foreach` over a list and a mapping, a `matrix` of two by two, `vars` from a file with chosen
+keys; each refusal with its words, in its order; and hostile texts, which have to be read or refused within a time that grows with their
 length. `.ci/run` runs this after the gate; DVC names another program than the one of this clone, and words name single checks (CHECKS, at
 the end). The first failure ends the script.
 """
@@ -62,13 +63,49 @@ PARAMETERS = """stages:
     - score.json:
         cache: false
 """
+TEMPLATES = """vars:
+- model: {lr: 0.1, name: small}
+- paths.yaml:in,out
+
+stages:
+  train:
+    cmd: echo ${model.lr} ${model.name} > ${out}/model
+    deps:
+    - ${in}
+    outs:
+    - ${out}/model
+
+  words:
+    foreach: [red, green]
+    do:
+      cmd: echo ${item} > ${item}.txt
+      outs:
+      - ${item}.txt
+
+  towns:
+    foreach:
+      uk: {capital: London}
+      us: {capital: Washington}
+    do:
+      cmd: echo ${item.capital} > ${key}.town
+      outs: ["${key}.town"]
+
+  grid:
+    matrix:
+      lr: [0.1, 0.5]
+      size: [s, m]
+    cmd: echo ${item.lr} ${item.size} > ${key}.grid
+    outs:
+    - ${key}.grid
+"""
 
 
 def check_guide(room):
-    """The guide's example does what it says."""
+    """The guide's examples do what it says."""
     with open(os.path.join(TOP, "docs", "GUIDE.md"), encoding="utf-8") as file:
         guide = file.read()
-    expect("the example stands in the guide", f"```\n{PARAMETERS}```\n" in guide, True)
+    for example in (PARAMETERS, TEMPLATES):
+        expect("an example stands in the guide", f"```\n{example}```\n" in guide, True)
     train = "echo trained; echo 1 > score.json\n"
     project = Project(room, {
         "dvc.yaml": PARAMETERS.encode(), "train.sh": train.encode(), "data": b"abc", "conf": None,
@@ -91,6 +128,22 @@ def check_guide(room):
     project.put(params__yaml="train: {layers: [], rate: 1e-1}\n")
     expect("a key that is gone", project.told(), ("", "'params.yaml' has no key 'train.layers[0]'"))
 
+    project = Project(room, {
+        "dvc.yaml": TEMPLATES.encode(), "paths.yaml": b"in: source\nout: made\nmodel: {lr: 9}\n", "source": b"x",
+    })
+    lines = project.told()
+    expect("the stages of the guide's second example", [line.split("'")[1] for line in lines.splitlines() if line[0] == "R"], [
+        "train", "words@red", "words@green", "towns@uk", "towns@us", "grid@0.1-s", "grid@0.1-m", "grid@0.5-s", "grid@0.5-m",
+    ])
+    for name, text in (("made/model", "0.1 small\n"), ("green.txt", "green\n"), ("us.town", "Washington\n"), ("0.5-s.grid", "0.5 s\n")):
+        expect(name, project.read(name), text)
+    # A stage without dependencies and parameters is run each time.
+    skipped = lines.replace(runs("train", "echo 0.1 small > made/model"), skips("train"))
+    expect("nothing was edited", project.told(), skipped)
+    project.put(dvc__yaml=TEMPLATES.replace("lr: 0.1, ", "lr: 0.2, "))
+    expect("a variable was edited", project.told(), lines.replace("0.1 small", "0.2 small"))
+    expect("what it gives", project.read("made/model"), "0.2 small\n")
+
 
 # ---- a pipeline of four stages
 
@@ -108,10 +161,9 @@ FOUR = """stages:
     outs:
     - features.txt
   train:
-    cmd: sh train.sh > model.bin
+    cmd: printf %s ${train.letter} > model.bin
     deps:
     - features.txt
-    - train.sh
     params:
     - train.letter
     - train.rate
@@ -131,7 +183,6 @@ FOUR = """stages:
     - plot.csv:
         x: n
 """
-TRAIN = b"sed -n 's/  letter: //p' params.yaml | tr -d '\\n'"
 ONE, TWO = skips("prepare") + skips("featurize"), ["cat model.bin > metrics.json", "cat features.txt > plot.csv"]
 
 
@@ -141,7 +192,7 @@ def four_entries(letter, rate):
     return [
         entry("prepare", "cat data.csv > prepared.txt", {"data.csv": abc}, {"prepared.txt": abc}),
         entry("featurize", "cat prepared.txt > features.txt", {"prepared.txt": abc}, {"features.txt": abc}),
-        with_params(entry("train", "sh train.sh > model.bin", {"features.txt": abc, "train.sh": TRAIN}, {"model.bin": model}),
+        with_params(entry("train", f"printf %s {letter} > model.bin", {"features.txt": abc}, {"model.bin": model}),
                     {"params.yaml": {"train.letter": letter, "train.rate": rate}}),
         entry("evaluate", TWO, {"features.txt": abc, "model.bin": model}, {"metrics.json": model, "plot.csv": abc}),
     ]
@@ -154,10 +205,8 @@ def rates(letter, rate):
 
 def check_four(room):
     """The edits of a parameter in a pipeline of four stages, and what each of them runs."""
-    project = Project(room, {
-        "data.csv": b"abc", "dvc.yaml": FOUR.encode(), "params.yaml": rates("a", "0.10").encode(), "train.sh": TRAIN,
-    })
-    train, evaluate = runs("train", "sh train.sh > model.bin"), runs("evaluate", *TWO)
+    project = Project(room, {"data.csv": b"abc", "dvc.yaml": FOUR.encode(), "params.yaml": rates("a", "0.10").encode()})
+    train, evaluate = runs("train", "printf %s a > model.bin"), runs("evaluate", *TWO)
     expect("the first run", project.told(), runs("prepare", "cat data.csv > prepared.txt")
            + runs("featurize", "cat prepared.txt > features.txt") + train + evaluate)
     first = lock(four_entries("a", "0.10"))
@@ -173,10 +222,10 @@ def check_four(room):
     project.put(params__yaml=rates("a", "0.2"))
     expect("another rate", project.told(), ONE + train + skips("evaluate"))
     project.put(params__yaml=rates("b", "0.2"))
-    expect("another letter", project.told(), ONE + train + evaluate)
+    expect("another letter", project.told(), ONE + runs("train", "printf %s b > model.bin") + evaluate)
     last = lock(four_entries("b", "0.2"))
     expect("the last lock", project.read("dvc.lock"), last)
-    project.put(dvc__yaml=FOUR.replace("sh train.sh > model.bin", "exit 3"))
+    project.put(dvc__yaml=FOUR.replace("printf %s ${train.letter} > model.bin", "exit 3"))
     for _ in range(2):
         expect("a command that fails", project.told(), (ONE + runs("train", "exit 3"), "stage 'train' failed with 3"))
         expect("its output", project.read("model.bin"), None)
@@ -211,10 +260,77 @@ def check_frozen(room):
     expect("and is left as it is", (project.read("mid"), project.read("out")), ("edited", "edited"))
 
 
+# ---- pipelines as they are documented
+
+DOCUMENTED = {
+    "a value of a mapping in a command": (
+        "stages:\n  train:\n    cmd: echo ${model.lr} > out\n    params: [model]\n    outs: [out]\n",
+        {"params.yaml": "model:\n  lr: 0.0001\n  layers: [64, 32]\n"}, {"out": "0.0001\n"}, ["train"]),
+    "foreach over a list": (
+        "stages:\n  clean:\n    foreach:\n    - raw1\n    - labels1\n    - raw2\n    do:\n      cmd: echo ${item} > ${item}.cln\n"
+        "      outs:\n      - ${item}.cln\n",
+        {}, {"raw1.cln": "raw1\n", "labels1.cln": "labels1\n"}, ["clean@raw1", "clean@labels1", "clean@raw2"]),
+    "foreach over a mapping": (
+        "stages:\n  build:\n    foreach:\n      uk:\n        epochs: 3\n        thresh: 10\n      us:\n        epochs: 10\n        thresh: 15\n"
+        "    do:\n      cmd: echo ${key} ${item.epochs} ${item.thresh} > model-${key}.hdfs\n      outs:\n      - model-${key}.hdfs\n",
+        {}, {"model-uk.hdfs": "uk 3 10\n", "model-us.hdfs": "us 10 15\n"}, ["build@uk", "build@us"]),
+    "foreach over a key": (
+        "stages:\n  one:\n    foreach: ${models}\n    do:\n      cmd: echo ${key} ${item.features} > ${key}\n      outs: [\"${key}\"]\n",
+        {"params.yaml": "models:\n  us: {features: [1], n: 2}\n".replace("[1]", "5")}, {"us": "us 5\n"}, ["one@us"]),
+    "a matrix of two by two": (
+        "stages:\n  train:\n    matrix:\n      model: [cnn, xgb]\n      feature: [f1, f2]\n"
+        "    cmd: echo --feature ${item.feature} ${item.model} > feature-${item.model}-${item.feature}.csv\n"
+        "    outs:\n    - feature-${item.model}-${item.feature}.csv\n",
+        {}, {"feature-xgb-f1.csv": "--feature f1 xgb\n"}, ["train@cnn-f1", "train@cnn-f2", "train@xgb-f1", "train@xgb-f2"]),
+    "a matrix of mappings": (
+        "stages:\n  train:\n    matrix:\n      model: [cnn, xgb]\n      config:\n      - n: 150\n      - n: 300\n"
+        "    cmd: echo ${item.config.n} > ${item.model}${item.config.n}\n    outs: [\"${item.model}${item.config.n}\"]\n",
+        {}, {"xgb300": "300\n"}, ["train@cnn-config0", "train@cnn-config1", "train@xgb-config0", "train@xgb-config1"]),
+    "chosen keys of a file of variables": (
+        "vars:\n- params.json:model,data\n- test_params.yaml\n- own: 5\nstages:\n  s:\n    cmd: echo ${model.x} ${data} ${own} ${deep.y} > out\n"
+        "    vars:\n    - stage.yaml:z\n    wdir: ${dir}\n    outs: [out]\n",
+        {"params.json": "{\"model\": {\"x\": 1}, \"data\": \"d\", \"own\": 7}", "test_params.yaml": "deep: {y: 2}\ndir: sub\n", "stage.yaml": "z: 3\ndata: 9\n"},
+        {"sub/out": "1 d 5 2\n"}, ["s"]),
+    "a dollar for the shell": (
+        "stages:\n  s:\n    cmd: X=3; echo $X \\${X} ${y} > out\n    vars: [{y: 4}]\n    outs: [out]\n", {}, {"out": "3 3 4\n"}, ["s"]),
+}
+
+
+def check_documented(room):
+    """Pipelines as DVC's documentation has them."""
+    for what, (text, files, made, names) in DOCUMENTED.items():
+        project = Project(room, {"dvc.yaml": text.encode()} | {name: content.encode() for name, content in files.items()})
+        lines = project.told()
+        expect(what, [line.split("'")[1] for line in lines.splitlines() if line.startswith("Running")] if isinstance(lines, str) else lines, names)
+        for name, content in made.items():
+            expect(f"{what}: {name}", project.read(name), content)
+
+
 # ---- refusals
 
 LONG = "1" * 1000
 REFUSED = {
+    "a key without an end stays": ("stages: {a: {cmd: 'echo ${b', frozen: true}}", {}, ""),
+    "a list put into a command": ("vars: [{l: [1]}]\nstages: {a: {cmd: 'echo ${l}'}}", {}, "'l' is not a scalar"),
+    "no variable": ("stages: {a: {cmd: 'echo ${nope}'}}", {}, "no variable 'nope'"),
+    "what was put in isn't read again": ("vars: [v.yaml]\nstages: {a: {cmd: 'echo ${a}', frozen: true}}", {"v.yaml": "a: ${b}\nb: ${a}\n"}, ""),
+    "a variable with a template": ("vars: [{a: '${b}'}]", {}, "'dvc.yaml': 'vars' is not supported"),
+    "foreach over a number": ("stages: {a: {foreach: 1, do: {cmd: x}}}", {}, "'dvc.yaml': bad value at 'stages.a.foreach'"),
+    "foreach over a key that leads to a number": ("vars: [{n: 1}]\nstages: {a: {foreach: '${n}', do: {cmd: x}}}", {}, "'dvc.yaml': bad value at 'stages.a.foreach'"),
+    "two values under one key": ("vars: [{a: 1}, {a: 2}]", {}, "'dvc.yaml': bad value at 'a'"),
+    "a missing file of variables": ("vars: [none.yaml]", {}, "'none.yaml' is missing"),
+    "a missing key of one": ("vars: ['v.yaml:x,y']", {"v.yaml": "x: 1\n"}, "'v.yaml' has no key 'y'"),
+    "an ill-formed one": ("vars: [v.yaml]", {"v.yaml": "a: [\n"}, "'v.yaml' line 1: syntax"),
+    "a list as one": ("vars: [v.yaml]", {"v.yaml": "- a\n"}, "'v.yaml': bad value at ''"),
+    "one from elsewhere, of which the file is what stands before the first colon": ("vars: [s3://v.yaml]", {}, "'s3' is missing"),
+    "one out of the folder": ("vars: [../v.yaml]", {}, "'../v.yaml' is not a path of the workspace"),
+    "one that a stage makes": ("vars: [v.yaml]\nstages: {a: {cmd: x, outs: [v.yaml]}}", {"v.yaml": "a: 1\n"}, "variables in 'v.yaml' come from output 'v.yaml'"),
+    "more stages than there may be": (
+        "stages: {{a: {{matrix: {{m: [{}], n: [{}]}}, cmd: x}}, b: {{}}}}".format(
+            ", ".join(map(str, range(100))), ", ".join(map(str, range(101)))), {}, "limit 10000 passed"),
+    "far more": (
+        "stages: {{a: {{matrix: {{l: [{0}], m: [{0}], n: [{0}]}}, cmd: x}}}}".format(", ".join(map(str, range(3000)))), {}, "limit 10000 passed"),
+    "two stages of one name": ("stages: {a: {foreach: [x, x], do: {cmd: c}}}", {}, "'dvc.yaml': bad value at 'stages.a@x'"),
     "a missing file of parameters": ("stages: {a: {cmd: x, params: [k]}}", {}, "'params.yaml' is missing"),
     "a missing key of it": ("stages: {a: {cmd: x, params: [k.l]}}", {"params.yaml": "k: {m: 1}\n"}, "'params.yaml' has no key 'k.l'"),
     "60 lists in one another": ("stages: {a: {cmd: x, params: [k]}}", {"params.yaml": "j: 1\nk: " + "[" * 60 + "]" * 60 + "\n"}, "'params.yaml': bad value at 'k'"),
@@ -253,11 +369,16 @@ def check_hostile(room):
         raise SystemExit(f"a file of parameters of 64 MiB takes {taken:.0f} seconds")
     big.put(params__yaml=b"k: 1\n#" + b"x" * 64 * MIB)
     expect("a longer one", big.told(), ("", "limit 67108864 passed"))
+    many = "".join(f"- {number}\n" for number in range(10_000))
+    wide = Project(room, {"dvc.yaml": f"vars:\n- l:\n  {many.replace(chr(10), chr(10) + '  ').rstrip()}\nstages:\n  a:\n    frozen: true\n    foreach: ${{l}}\n    do: {{cmd: 'echo ${{item}}', frozen: true}}\n".replace("    frozen: true\n    foreach", "    foreach").encode()})
+    taken = seconds([DVC, "repro"], wide.folder)
+    if taken > 10:
+        raise SystemExit(f"10,000 stages of a list take {taken:.0f} seconds")
 
 
 CHECKS = {
-    "guide": check_guide, "four": check_four, "uncached": check_uncached, "frozen": check_frozen, "refused": check_refused,
-    "hostile": check_hostile,
+    "guide": check_guide, "four": check_four, "uncached": check_uncached, "frozen": check_frozen, "documented": check_documented,
+    "refused": check_refused, "hostile": check_hostile,
 }
 
 

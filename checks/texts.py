@@ -96,11 +96,12 @@ def stage_rows():
 def stages_line(outcome):
     """The pattern of what is told where `stage_table` tells a refusal, no stage, or stages."""
     words = outcome.removeprefix("=> ").rstrip("\n")
-    whole = {"none": "", "no node": NO_NODE, "not built": r"ERROR: 'dvc\.yaml' is not supported yet"}
+    whole = {"none": "", "no node": NO_NODE}
     start, _, key = words.partition(" ")
     begun = {
         "schema": f"ERROR: 'dvc.yaml': bad value at {key}", "unsupported": f"ERROR: 'dvc.yaml': {key} is not supported",
-        "outside": f"ERROR: {key} is not a path of the workspace",
+        "outside": f"ERROR: {key} is not a path of the workspace", "not": f"ERROR: {key.removeprefix('scalar ')} is not a scalar",
+        "no": f"ERROR: no {key}" if key.startswith("variable") else f"ERROR: {key.removeprefix('file ')} is missing",
     }
     return whole[words] if words in whole else re.escape(begun[start]) if start in begun else GOOD
 
@@ -262,7 +263,6 @@ def unlike():
 
 # ---- what is refused
 
-NOT_BUILT = "'dvc.yaml' is not supported yet"
 REFUSED_YAML = [
     ("stages: [", "'dvc.yaml' line 1: syntax"),
     ("stages:\n\tcopy:\n", "'dvc.yaml' line 2: syntax"),
@@ -289,10 +289,10 @@ REFUSED_YAML = [
     ("stages: {copy: {cmd: c, deps: [../in]}}\n", "'../in' is not a path of the workspace"),
     ("stages: {copy: {cmd: c, outs: [/out]}}\n", "'/out' is not a path of the workspace"),
     ("stages: {copy: {cmd: c, deps: ['']}}\n", "'' is not a path of the workspace"),
-    ("stages: {copy: {cmd: 'echo ${a}'}}\n", NOT_BUILT),
-    ("vars: [{a: 1}]\n", NOT_BUILT),
-    ("stages: {copy: {foreach: [a], do: {cmd: c}}}\n", NOT_BUILT),
-    ("stages: {copy: {matrix: {a: [b]}, cmd: c}}\n", NOT_BUILT),
+    ("stages: {copy: {cmd: 'echo ${a}'}}\n", "no variable 'a'"),
+    ("vars: [a.yaml]\n", "'a.yaml' is missing"),
+    ("stages: {copy: {foreach: 1, do: {cmd: c}}}\n", "'dvc.yaml': bad value at 'stages.copy.foreach'"),
+    ("stages: {copy: {matrix: {a: b}, cmd: c}}\n", "'dvc.yaml': bad value at 'stages.copy.matrix.a'"),
     ("stages: {copy: {cmd: c, deps: [dvc.lock]}}\n", "'dvc.lock' has a reserved name"),
     ("stages: {copy: {cmd: c, deps: [.]}}\n", "'.' overlaps '.dvc'"),
     ("stages: {copy: {cmd: c, wdir: .dvc/tmp}}\n", "'.dvc/tmp' overlaps '.dvc'"),
@@ -335,8 +335,13 @@ def refused():
 ORDER = [
     ({".dvc": b""}, "'.dvc' is not a folder"),
     ({"dvc.yaml": b"stages: ["}, "'dvc.yaml' line 1: syntax"),
-    ({"dvc.lock": b"stages: ["}, "'dvc.lock' line 1: syntax"),
+    ({"dvc.yaml": b"vars: [../v.yaml]", "v.yaml": b"a: ["}, "'../v.yaml' is not a path of the workspace"),
+    ({"dvc.yaml": b"vars: [v.yaml, {a: 1}, {a: 2}]", "v.yaml": b"a: ["}, "'v.yaml' line 1: syntax"),
+    ({"dvc.lock": b"stages: [", "v.yaml": b"{}"}, "'dvc.lock' line 1: syntax"),
     ({"dvc.lock": NO_HASH}, "'dvc.lock' has an older format"),
+    ({"dvc.yaml": b"vars: [{a: 1}, {a: 2}]\nstages: {a: {cmd: '${x}'}, b: {}}"}, "'dvc.yaml': bad value at 'a'"),
+    ({"dvc.yaml": b"stages: {a: {cmd: '${x}', deps: [../in], vars: [none.yaml]}, b: {}}"}, "'none.yaml' is missing"),
+    ({"dvc.yaml": b"stages: {a: {cmd: '${x}', deps: [../in]}, b: {}}"}, "no variable 'x'"),
     ({"dvc.yaml": b"stages: {a: {cmd: c, deps: [../in], outs: [.dvc]}, b: {}}"}, "'dvc.yaml': bad value at 'stages.b.cmd'"),
     ({"dvc.yaml": b"stages: {a: {cmd: c, outs: [.dvc]}, b: {cmd: c, deps: [../in], outs: [../out]}}"}, "'../out' is not a path of the workspace"),
     ({"dvc.yaml": b"stages: {a: {cmd: c, outs: [.dvc]}, b: {cmd: c, deps: [../in]}}"}, "'../in' is not a path of the workspace"),
@@ -360,10 +365,10 @@ def order():
 
 
 def folders():
-    """A folder at `dvc.yaml` or at `dvc.lock` isn't read yet."""
+    """A folder at `dvc.yaml` or at `dvc.lock` is no file."""
     for name in ("dvc.yaml", "dvc.lock"):
         tree = {**DONE, "dvc.lock": LOCK, name: None, f"{name}/file": b"x"}
-        expect(f"a folder at {name}", answer(tree), (255, f"ERROR: '{name}' is not supported yet", True))
+        expect(f"a folder at {name}", answer(tree), (255, f"ERROR: '{name}' is missing", True))
 
 
 CHECKS = [lock_rows, stage_rows, spellings, locks, unlike, refused, order, folders]
