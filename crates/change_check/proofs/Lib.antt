@@ -1,2 +1,5 @@
 pub mod NodeLemmas
 pub mod ValueLemmas
+pub mod SidesLemmas
+pub mod KeyLemmas
+pub mod NothingLemmas

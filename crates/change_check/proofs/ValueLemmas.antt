@@ -4,6 +4,7 @@
 --     are_canonical      canonical parameters can be compared
 --     keyed_sound        so can those in form
 --     entry_sound        as those of an entry are
+--     each_by            what follows for each item
 use Rattle.std.proofs.Common.{◌≡◌, Bool, ◌&&◌, List, [], ◌∷◌, map, refl, sym, ap, ◌∙◌, lit<}
 use Rattle.std.specs.Bool.{Decides}
 use Rattle.std.specs.Cmp.Lexicographic.{pointwise}
@@ -46,7 +47,7 @@ each_made : {A : Type 0} (P Q : A → Type 0) (f : A → A) → ((x : A) → P x
 each_made P Q f h [] all = tt
 each_made P Q f h (x ∷ xs) all = (h x all.0, each_made P Q f h xs all.1)
 
-each_by : {A : Type 0} (P Q : A → Type 0) → ((x : A) → P x → Q x) → (xs : List A) → Each P xs → Each Q xs
+pub each_by : {A : Type 0} (P Q : A → Type 0) → ((x : A) → P x → Q x) → (xs : List A) → Each P xs → Each Q xs
 each_by P Q h [] all = tt
 each_by P Q h (x ∷ xs) all = (h x all.0, each_by P Q h xs all.1)
 

@@ -1,2 +1,5 @@
 pub mod Same
 pub mod Sound
+pub mod Sides
+pub mod Compare
+pub mod Keys

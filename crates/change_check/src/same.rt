@@ -40,7 +40,7 @@ fn same_inputs(entry: &Entry, seen: &Seen) -> bool
         && same_files(entry.params.as_slice(), seen.params.as_slice())
 }
 
-fn same_texts(a: &[Text], b: &[Text]) -> bool
+pub(crate) fn same_texts(a: &[Text], b: &[Text]) -> bool
     ensures exact { result ≡ pointwise bytes_eq a.now b.now }
 {
     if a.len() != b.len() {
@@ -107,7 +107,7 @@ pub fn is_named(entry: &PathEntry, seen: &Option<Named>) -> bool
     }
 }
 
-fn has_name(entry: &PathEntry, named: &Named) -> bool
+pub(crate) fn has_name(entry: &PathEntry, named: &Named) -> bool
     ensures exact { result ≡ spec.same_named (spec.told_of entry.now) named.now }
 {
     entry.name == named.name && entry.size == named.size && entry.nfiles == named.nfiles

@@ -1,0 +1,4 @@
+pub mod TestLemmas
+pub mod FirstLemmas
+pub mod RunLemmas
+pub mod PlaceLemmas

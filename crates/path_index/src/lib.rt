@@ -3,5 +3,9 @@
 
 mod index;
 mod inside;
+mod least;
+mod run;
+mod set;
+mod table;
 
 pub use index::PathIndex;

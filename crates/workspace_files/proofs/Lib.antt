@@ -1,0 +1,6 @@
+mod PathsLemmas
+mod TreeOrder
+mod MetLemmas
+mod NameLemmas
+mod LineLemmas
+mod TrackLemmas

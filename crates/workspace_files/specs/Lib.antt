@@ -1,0 +1,5 @@
+pub mod Read
+pub mod Walk
+pub mod Met
+pub mod Ignores
+pub mod Tracks
