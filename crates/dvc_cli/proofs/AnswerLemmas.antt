@@ -1,12 +1,10 @@
 -- Answers of a command line, case by case.
---     is_repro-words, words-is_repro      the test of the words and their equation are one
---     kind_apart, ends_reading                   of what kind a fault isn't; what stops the reading of a workspace
+--     kind_apart, ends_reading            of what kind a fault isn't; what stops the reading of a workspace
 --     refused_first, none_gained          a refusal that comes before any turn
 --     nothing_told                        no line is a front of the report of any stages
 use Rattle.std.proofs.Common.{◌≡◌, ℕ, Bool, true, false, not, ◌||◌, List, [], ◌∷◌, ◌++◌, map, Option, Some, None, IsTrue, ◌==◌, refl, sym, ap, ◌∙◌, subst, ◌⊎◌, inl, inr}
 use Rattle.std.specs.List.{list_any, list_all}
 use Rattle.std.proofs.lemmas.Bool.{and_parts, or_cases, false≢true, eqb-true}
-use Rattle.std.proofs.lemmas.Slice.Eq.{slice_eq-Decides, bytes_eq-Decides}
 use Rattle.std.proofs.lemmas.List.{append-nil}
 use Rattle.dvc_base.specs.Fault.{kind_of, place_of_kind, is_one_of, is_free, MayBe}
 use Rattle.dvc_base.specs.Answer.{IsAnswer, GainsAs, Gains}
@@ -20,15 +18,7 @@ use Rattle.repro_laws.specs.declared.stage.Choice.{Choice}
 use Rattle.repro_laws.specs.declared.stage.Choice.TheVariants.{Run}
 use Rattle.repro_core.proofs.GainLemmas.{front_none}
 use Rattle.dvc_cli.specs.Workspace.{read_kinds}
-use Rattle.dvc_cli.specs.Command.{is_repro, repro_words, halt_kinds}
-
--- ---- words
-
-pub is_repro-words : (words : List (List ℕ)) → is_repro words ≡ true → words ≡ repro_words
-is_repro-words words e = (slice_eq-Decides bytes_eq-Decides words repro_words (is_repro words) refl).0 e
-
-pub words-is_repro : (words : List (List ℕ)) → words ≡ repro_words → is_repro words ≡ true
-words-is_repro words e = (slice_eq-Decides bytes_eq-Decides words repro_words (is_repro words) refl).1 e
+use Rattle.dvc_cli.specs.Command.{halt_kinds}
 
 -- ---- kinds
 

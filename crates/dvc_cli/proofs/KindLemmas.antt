@@ -12,6 +12,7 @@ use Rattle.dvc_base.specs.Fault.{MayBe}
 use Rattle.dvc_base.specs.declared.fault.Fault.{Fault}
 use Rattle.dvc_base.specs.declared.fault.Fault.TheVariants as f
 use Rattle.dvc_base.specs.declared.path.PathFault.{PathFault}
+use Rattle.lock_files.specs.declared.PathEntry.{PathEntry}
 use Rattle.stage_order.specs.Order.{is_in, order}
 use Rattle.stage_order.specs.Walk.{first_walk}
 use Rattle.stage_schema.specs.declared.stage.Out.{Out}
@@ -22,9 +23,10 @@ use Rattle.stage_graph.specs.Cycle.{all_above, names_of, cycle_fault}
 use Rattle.stage_graph.specs.Fault.{first_of}
 use Rattle.stage_graph.specs.Graph.{graph_fault}
 use Rattle.stage_graph.specs.Kept.{tool_paths, file_paths, near_fault, itself_if, has_track_name, is_track, name_fault, dir_fault, tool_fault, file_fault, var_fault, reserved_fault}
-use Rattle.stage_graph.specs.Paths.{needs, owners, owner_paths, outputs, output_paths}
-use Rattle.stage_graph.specs.Texts.{join_fault, text_fault, out_texts, need_texts, outside_fault}
+use Rattle.stage_graph.specs.Paths.{folder_of, needs, owners, owner_paths, outputs, output_paths}
+use Rattle.stage_graph.specs.Texts.{join_fault, text_fault, track_texts, out_texts, need_texts, outside_fault}
 use Rattle.stage_graph.specs.declared.owner.Owner.{Owner}
+use Rattle.stage_graph.specs.declared.track.TrackFile.{TrackFile}
 use Rattle.dvc_cli.specs.Workspace.{plan_kinds}
 
 abbrev Fits : Option Fault → Type 0
@@ -60,8 +62,13 @@ need_fits s =
     (first_fits (text_fault s.dir) (text_fits s.dir) s.deps)
     (first_fits (λ (want : ParamWant). text_fault s.dir want.file) (λ want. text_fits s.dir want.file) s.params)
 
-outside_fits : (ss : List Written) → Fits (outside_fault ss [])
-outside_fits ss = or_fits (first_of out_texts ss) (first_of need_texts ss) (first_fits out_texts out_fits ss) (first_fits need_texts need_fits ss)
+track_fits : (t : TrackFile) → Fits (track_texts t)
+track_fits t = first_fits (λ (out : PathEntry). text_fault (folder_of t.file) out.path) (λ out. text_fits (folder_of t.file) out.path) t.track.outs
+
+outside_fits : (ss : List Written) (tracks : List TrackFile) → Fits (outside_fault ss tracks)
+outside_fits ss tracks =
+    or_fits (first_of track_texts tracks) (option_or (first_of out_texts ss) (first_of need_texts ss)) (first_fits track_texts track_fits tracks)
+    (or_fits (first_of out_texts ss) (first_of need_texts ss) (first_fits out_texts out_fits ss) (first_fits need_texts need_fits ss))
 
 -- ---- paths that are kept
 
@@ -81,20 +88,20 @@ tool_fits owned ss =
     (first_fits (near_fault tool_paths) (near_fits tool_paths) owned)
     (first_fits (λ (s : Written). first_of (near_fault tool_paths) (needs s)) (λ s. first_fits (near_fault tool_paths) (near_fits tool_paths) (needs s)) ss)
 
-var_fits : (p : Path) → Fits (var_fault [] p)
-var_fits p =
-    or_fits (near_fault tool_paths p) (itself_if (is_track [] p) p) (near_fits tool_paths p) (itself_fits (is_track [] p) p)
+var_fits : (tracks : List TrackFile) (p : Path) → Fits (var_fault tracks p)
+var_fits tracks p =
+    or_fits (near_fault tool_paths p) (itself_if (is_track tracks p) p) (near_fits tool_paths p) (itself_fits (is_track tracks p) p)
 
-reserved_fits : (vars owned : List Path) (ss : List Written) → Fits (reserved_fault owned ss [] vars [])
-reserved_fits vars owned ss =
+reserved_fits : (vars owned : List Path) (ss : List Written) (tracks : List TrackFile) (ignores : List Path) → Fits (reserved_fault owned ss tracks vars ignores)
+reserved_fits vars owned ss tracks ignores =
     let dirs : Option Fault = first_of dir_fault ss in
-    let read : Option Fault = first_of (var_fault []) vars in
+    let read : Option Fault = first_of (var_fault tracks) vars in
     let names : Option Fault = first_of name_fault owned in
-    let files : Option Fault = file_fault [] [] owned in
+    let files : Option Fault = file_fault tracks ignores owned in
     or_fits (tool_fault owned ss) (option_or files (option_or names (option_or dirs read))) (tool_fits owned ss)
-    (or_fits files (option_or names (option_or dirs read)) (first_fits (near_fault (file_paths [] [])) (near_fits (file_paths [] [])) owned)
+    (or_fits files (option_or names (option_or dirs read)) (first_fits (near_fault (file_paths tracks ignores)) (near_fits (file_paths tracks ignores)) owned)
     (or_fits names (option_or dirs read) (first_fits name_fault (λ p. itself_fits (has_track_name p) p) owned)
-    (or_fits dirs read (first_fits dir_fault dir_fits ss) (first_fits (var_fault []) var_fits vars))))
+    (or_fits dirs read (first_fits dir_fault dir_fits ss) (first_fits (var_fault tracks) (var_fits tracks) vars))))
 
 -- ---- owners that overlap, variables, and cycles
 
@@ -120,25 +127,25 @@ made_fits vars ss =
 cycle_fits : (ss : List Written) → Fits (cycle_fault ss)
 cycle_fits ss = map_fits (λ (ns : List ℕ). f.Cycle (names_of ss ns)) (λ ns. refl) (first_walk (all_above ss) (is_in (order (all_above ss))))
 
-graph_fits : (vars : List Path) (ss : List Written) → Fits (graph_fault ss [] vars [])
-graph_fits vars ss =
-    let a : Option Fault = outside_fault ss [] in
-    let b : Option Fault = reserved_fault (owner_paths (owners ss [])) ss [] vars [] in
-    let c : Option Fault = clash_fault (owners ss []) in
+graph_fits : (tracks : List TrackFile) (vars ignores : List Path) (ss : List Written) → Fits (graph_fault ss tracks vars ignores)
+graph_fits tracks vars ignores ss =
+    let a : Option Fault = outside_fault ss tracks in
+    let b : Option Fault = reserved_fault (owner_paths (owners ss tracks)) ss tracks vars ignores in
+    let c : Option Fault = clash_fault (owners ss tracks) in
     let d : Option Fault = made_fault ss vars in
     let e : Option Fault = cycle_fault ss in
-    or_fits a (option_or b (option_or c (option_or d (option_or e None)))) (outside_fits ss)
-    (or_fits b (option_or c (option_or d (option_or e None))) (reserved_fits vars (owner_paths (owners ss [])) ss)
-    (or_fits c (option_or d (option_or e None)) (clash_fits [] (owners ss []))
+    or_fits a (option_or b (option_or c (option_or d (option_or e None)))) (outside_fits ss tracks)
+    (or_fits b (option_or c (option_or d (option_or e None))) (reserved_fits vars (owner_paths (owners ss tracks)) ss tracks ignores)
+    (or_fits c (option_or d (option_or e None)) (clash_fits [] (owners ss tracks))
     (or_fits d (option_or e None) (made_fits vars ss) (or_fits e None (cycle_fits ss) tt))))
 
-pub plan_kind : (vars : List Path) (ss : List Written) (fault : Fault) → graph_fault ss [] vars [] ≡ Some fault → MayBe plan_kinds (Some fault)
-plan_kind vars ss fault told = subst (MayBe plan_kinds) told (graph_fits vars ss)
+pub plan_kind : (tracks : List TrackFile) (vars ignores : List Path) (ss : List Written) (fault : Fault) → graph_fault ss tracks vars ignores ≡ Some fault → MayBe plan_kinds (Some fault)
+plan_kind tracks vars ignores ss fault told = subst (MayBe plan_kinds) told (graph_fits tracks vars ignores ss)
 
 -- want of memory is one of the plan's as well
-pub told_kind : (vars : List Path) (ss : List Written) (fault : Fault) → (fault ≡ f.NoMemory) ⊎ (graph_fault ss [] vars [] ≡ Some fault) → MayBe plan_kinds (Some fault)
-told_kind vars ss fault (inl memory) = subst (λ (x : Fault). MayBe plan_kinds (Some x)) (sym memory) refl
-told_kind vars ss fault (inr told) = plan_kind vars ss fault told
+pub told_kind : (tracks : List TrackFile) (vars ignores : List Path) (ss : List Written) (fault : Fault) → (fault ≡ f.NoMemory) ⊎ (graph_fault ss tracks vars ignores ≡ Some fault) → MayBe plan_kinds (Some fault)
+told_kind tracks vars ignores ss fault (inl memory) = subst (λ (x : Fault). MayBe plan_kinds (Some x)) (sym memory) refl
+told_kind tracks vars ignores ss fault (inr told) = plan_kind tracks vars ignores ss fault told
 
 -- the exit of a step
 pub kinds_err : {T : Type 0} (r : Result T Fault) (y fault : Fault) → r ≡ Err y → y ≡ fault → MayBe plan_kinds (Some fault) → MayBe plan_kinds (fault_in r)

@@ -1,10 +1,12 @@
 pub mod PlannedLemmas
+pub mod TargetLemmas
 pub mod DistinctLemmas
 pub mod PairLemmas
 pub mod SchemaLemmas
 pub mod KindLemmas
 pub mod ClearLemmas
 pub mod TurnLemmas
+pub mod PlacedLemmas
 pub mod UsableLemmas
 pub mod PlanLemmas
 pub mod PlaceLemmas

@@ -8,18 +8,16 @@
 --     pairs_in_order             of the members in order
 --     pairs_flat, pairs_of_flat  of what a function gives as lists
 --     each_flat, each_of_flat    what holds of each member of these
---     at_place, each_place       what holds of each member, by its place
+--     at_place                   what holds of each member, by its place
 --     pair_at                    and of two of them
 --     each_picked, pairs_picked  of the members at some places, each of which is named once
---     each_back, any_picked      where each place is named
---     each_kept, pairs_kept, any_kept     of the members that a test keeps
-use Rattle.std.proofs.Common.{◌≡◌, ℕ, zero, suc, ◌<◌, Bool, true, false, ◌&&◌, ◌||◌, ◌==◌, cond, List, [], ◌∷◌, ◌++◌, length, map, Option, Some, None, refl, sym, ap, subst, ◌∙◌, inl, inr, slice_get}
-use Rattle.std.specs.List.{AllByRecursion, list_any, filter, filter_map, flat_map, cons_option}
-use Rattle.std.proofs.lemmas.Bool.{cases_Bool, cond-true, cond-false, or_cases, both_ways, false≢true, eqb-true, eq-eqb, or_left, or_right}
-use Rattle.std.proofs.lemmas.Option.{slice_get_within}
+--     each_kept, pairs_kept      of the members that a test keeps
+use Rattle.std.proofs.Common.{◌≡◌, ℕ, zero, suc, Bool, true, false, ◌==◌, cond, List, [], ◌∷◌, ◌++◌, map, Option, Some, None, refl, sym, ap, subst, inl, inr, slice_get}
+use Rattle.std.specs.List.{AllByRecursion, filter, filter_map, flat_map, cons_option}
+use Rattle.std.proofs.lemmas.Bool.{cases_Bool, cond-true, cond-false, both_ways, eq-eqb, or_left, or_right}
 use Rattle.lock_files.specs.Order.{is_less, put_in, in_order}
 use Rattle.stage_order.specs.Order.{is_in}
-use Rattle.repro_laws.proofs.ListLemmas.{each_from, each_first, each_second, each_all, each_mapped, each_map, each_false, none_true, each_in_order}
+use Rattle.repro_laws.proofs.ListLemmas.{each_from, each_first, each_second, each_all, each_mapped, each_map, each_in_order}
 
 pub none_is_some : {A : Type 0} (a : A) → None ≡ Some a → ⊥
 none_is_some a e = cc
@@ -155,14 +153,6 @@ module _ {A : Type 0} (test : A → Bool) where
   pairs_kept R [] h = tt
   pairs_kept R (x ∷ xs) h = pairs_if R (test x) x (filter test xs) (each_kept (R x) xs h.0) (pairs_kept R xs h.1)
 
-  any_if : (u : A → Bool) (b : Bool) (x : A) (rest : List A) → list_any u (cond b (x ∷ rest) rest) ≡ ((b && u x) || list_any u rest)
-  any_if u true x rest = refl
-  any_if u false x rest = refl
-
-  pub any_kept : (u : A → Bool) (xs : List A) → list_any u (filter test xs) ≡ list_any (λ x. test x && u x) xs
-  any_kept u [] = refl
-  any_kept u (x ∷ xs) = any_if u (test x) x (filter test xs) ∙ ap (λ (b : Bool). (test x && u x) || b) (any_kept u xs)
-
 -- ---- places
 
 -- no place is named twice
@@ -175,10 +165,6 @@ module _ {A : Type 0} where
   at_place P [] n x all e = absurd (none_is_some x e)
   at_place P (y ∷ xs) zero x all e = subst P (some_same y x e) all.0
   at_place P (y ∷ xs) (suc n) x all e = at_place P xs n x all.1 e
-
-  pub each_place : (P : A → Type 0) (xs : List A) → ((n : ℕ) (x : A) → slice_get xs n ≡ Some x → P x) → AllByRecursion P xs
-  each_place P [] f = tt
-  each_place P (x ∷ xs) f = (f zero x refl, each_place P xs (λ n y e. f (suc n) y e))
 
   pub pair_at : (R : A → A → Type 0) → ((x y : A) → R x y → R y x) → (xs : List A) (m n : ℕ) (a b : A) → AllPairs R xs → slice_get xs m ≡ Some a → slice_get xs n ≡ Some b → (m ≡ n → ⊥) → R a b
   pair_at R turn [] m n a b h d e ne = absurd (none_is_some a d)
@@ -210,37 +196,3 @@ module _ {A : Type 0} where
       pairs_cons R (slice_get xs n) (filter_map (slice_get xs) ns)
       (λ x e. each_picked (R x) xs ns (λ m y inside d. pair_at R turn xs n m x y h e d (λ same. both_ways (is_in ns n) once.0 (subst (λ (k : ℕ). is_in ns k ≡ true) (sym same) inside))))
       (pairs_picked R turn xs h ns once.1)
-
-  -- ---- back from the members at places
-
-  cons_here : (P : A → Type 0) (o : Option A) (rest : List A) (x : A) → o ≡ Some x → AllByRecursion P (cons_option o rest) → P x
-  cons_here P None rest x e h = absurd (none_is_some x e)
-  cons_here P (Some y) rest x e h = subst P (some_same y x e) h.0
-
-  cons_rest : (P : A → Type 0) (o : Option A) (rest : List A) → AllByRecursion P (cons_option o rest) → AllByRecursion P rest
-  cons_rest P None rest h = h
-  cons_rest P (Some y) rest h = h.1
-
-  picked_at : (P : A → Type 0) (xs : List A) (ns : List ℕ) (n : ℕ) (x : A) → is_in ns n ≡ true → slice_get xs n ≡ Some x → AllByRecursion P (filter_map (slice_get xs) ns) → P x
-  picked_at P xs [] n x inside e h = absurd (false≢true inside)
-  picked_at P xs (m ∷ ns) n x inside e h =
-      elim (or_cases (m == n) (is_in ns n) inside) [
-        | inl same ↦ cons_here P (slice_get xs m) (filter_map (slice_get xs) ns) x (ap (slice_get xs) (eqb-true m n same) ∙ e) h
-        | inr more ↦ picked_at P xs ns n x more e (cons_rest P (slice_get xs m) (filter_map (slice_get xs) ns) h)
-      ]
-
-  pub each_back : (P : A → Type 0) (xs : List A) (ns : List ℕ) → ((n : ℕ) → n < length xs → is_in ns n ≡ true) → AllByRecursion P (filter_map (slice_get xs) ns) → AllByRecursion P xs
-  each_back P xs ns all h = each_place P xs (λ n x e. picked_at P xs ns n x (all n (slice_get_within xs n x e)) e h)
-
-  pub any_picked : (t : A → Bool) (xs : List A) (ns : List ℕ) → ((n : ℕ) → n < length xs → is_in ns n ≡ true) → list_any t (filter_map (slice_get xs) ns) ≡ list_any t xs
-  any_picked t xs ns all =
-      elim (cases_Bool (list_any t xs)) [
-        | inl some ↦
-            elim (cases_Bool (list_any t (filter_map (slice_get xs) ns))) [
-              | inl here ↦ here ∙ sym some
-              | inr none ↦ absurd (both_ways (list_any t xs) (none_true t xs (each_back (λ x. t x ≡ false) xs ns all (each_false t (filter_map (slice_get xs) ns) none))) some)
-            ]
-        | inr none ↦
-            none_true t (filter_map (slice_get xs) ns) (each_picked (λ x. t x ≡ false) xs ns (λ n x inside e. at_place (λ y. t y ≡ false) xs n x (each_false t xs none) e))
-            ∙ sym none
-      ]

@@ -1,6 +1,6 @@
 -- The stages at some places.
---     place_none                   a place at which no stage stands adds none
---     stages_more, outs_more       the stages at one more place, and the outputs of one more stage
+--     place_none, outs_none        a place at which no stage stands adds none, and no output
+--     stages_more, outs_more       the stages at one more place, and their outputs
 use Rattle.std.proofs.Common.{◌≡◌, ℕ, ◌+◌, ◌<◌, List, [], ◌∷◌, ◌++◌, length, map, take, get_or, Option, None, sym, ap, ◌∙◌, slice_get, append-nil}
 use Rattle.std.specs.List.{cons_option}
 use Rattle.std.proofs.lemmas.List.{take_more, map-append}
@@ -28,10 +28,18 @@ stages_more outs written ns i inside =
     ∙ ap (map (stage_of outs)) (filter-append has_turn before next)
     ∙ map-append (stage_of outs) (with_turns before) (with_turns next)
 
-pub outs_more : (written : List Written) (i : ℕ) (s : Written) → i < length written → s ≡ get_or written i s →
-    all_outs (with_turns (take (i + 1) written)) ≡ all_outs (with_turns (take i written)) ++ all_outs (with_turns (s ∷ []))
-outs_more written i s inside here =
-    ap (λ (ss : List Written). all_outs (with_turns ss)) (take_more written i s inside)
-    ∙ ap all_outs (filter-append has_turn (take i written) (get_or written i s ∷ []))
-    ∙ flat_map-append stage_outs (with_turns (take i written)) (with_turns (get_or written i s ∷ []))
-    ∙ ap (λ (x : Written). all_outs (with_turns (take i written)) ++ all_outs (with_turns (x ∷ []))) (sym here)
+pub outs_none : (written : List Written) (n : ℕ) (old : List Path) → slice_get written n ≡ None →
+    old ≡ old ++ all_outs (with_turns (stages_at written (n ∷ [])))
+outs_none written n old missing =
+    sym (append-nil old) ∙ ap (λ (o : Option Written). old ++ all_outs (with_turns (cons_option o []))) (sym missing)
+
+pub outs_more : (written : List Written) (ns : List ℕ) (i : ℕ) → i < length ns →
+    all_outs (with_turns (stages_at written (take (i + 1) ns)))
+    ≡ all_outs (with_turns (stages_at written (take i ns))) ++ all_outs (with_turns (stages_at written (get_or ns i 0 ∷ [])))
+outs_more written ns i inside =
+    let before = stages_at written (take i ns) in
+    let next = stages_at written (get_or ns i 0 ∷ []) in
+    ap (λ (ms : List ℕ). all_outs (with_turns (stages_at written ms))) (take_more ns i 0 inside)
+    ∙ ap (λ (ss : List Written). all_outs (with_turns ss)) (filter_map-append (slice_get written) (take i ns) (get_or ns i 0 ∷ []))
+    ∙ ap all_outs (filter-append has_turn before next)
+    ∙ flat_map-append stage_outs (with_turns before) (with_turns next)

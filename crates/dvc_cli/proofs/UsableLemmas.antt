@@ -2,10 +2,10 @@
 --     outs_each, reads_each     what holds of each path of a written stage holds of those of the stage that has a turn
 --     is_stage, kept, outside   what is asked of one stage
 --     names_from                no two names are one
---     any_planned, marked       the outputs of the plan are those of all stages that have turns, and so dependencies are marked
+--     any_planned, marked       the outputs of the plan are those of its stages as they are written, and so dependencies are marked
 --     ordered                   what a stage reads overlaps no output of its own or of a later one
 --     usable                    all that is asked of the stages of a plan
-use Rattle.std.proofs.Common.{◌≡◌, ℕ, ◌<◌, Bool, true, false, not, ◌&&◌, ◌||◌, ◌==◌, cond, List, [], ◌∷◌, length, map, refl, sym, ap, ◌∙◌, arith, bytes_eq, Option, Some, None, slice_get}
+use Rattle.std.proofs.Common.{◌≡◌, ℕ, Bool, true, false, not, ◌&&◌, ◌||◌, ◌==◌, cond, List, [], ◌∷◌, length, map, refl, sym, ap, ◌∙◌, arith, bytes_eq, Option, Some, None, slice_get}
 use Rattle.std.specs.List.{AllByRecursion, list_any, flat_map, cons_option}
 use Rattle.std.proofs.lemmas.Bool.{and_from, and_parts, or_parts, or_from, both_ways, false_from_ne_true, not_from_false, not-true, ne_eqb, false≢true, or_left, or_right, eq-eqb}
 use Rattle.std.proofs.lemmas.List.Folds.{list_any-append}
@@ -17,8 +17,7 @@ use Rattle.world_api.specs.Effect.{path_from}
 use Rattle.world_api.specs.Layout.{dvc_path, lock_path, yaml_path}
 use Rattle.lock_files.specs.Order.{in_order}
 use Rattle.stage_order.specs.Closure.{StandsBehind}
-use Rattle.stage_order.specs.Order.{is_in, order}
-use Rattle.stage_order.proofs.ClosureLemmas.{behind_order}
+use Rattle.stage_order.specs.Order.{is_in}
 use Rattle.lock_files.specs.Form as form
 use Rattle.stage_schema.specs.declared.stage.Out.{Out as WrittenOut}
 use Rattle.stage_schema.specs.declared.stage.ParamWant.{ParamWant}
@@ -35,12 +34,12 @@ use Rattle.repro_laws.specs.declared.stage.Tracked.{Tracked}
 use Rattle.repro_laws.specs.declared.stage.Stage.{Stage}
 use Rattle.repro_laws.proofs.ListLemmas.{each_from, each_both, each_first, each_second, each_all, each_mapped, each_map, each_false, none_true, each_in_order}
 use Rattle.repro_laws.proofs.RefusalLemmas.{any_in_order}
-use Rattle.dvc_cli.specs.Plan.{dep_of, out_of, tracked_of, looks_of, outs_of, stage_of, has_turn, with_turns, all_outs, stages_at, planned_at, planned, AreUsable}
+use Rattle.dvc_cli.specs.Plan.{dep_of, out_of, tracked_of, looks_of, outs_of, stage_of, has_turn, with_turns, all_outs, turns_of, stages_at, planned_at, AreUsable}
 use Rattle.dvc_cli.proofs.DistinctLemmas.{are_distinct, text_swap, formed, rising}
-use Rattle.dvc_cli.proofs.PairLemmas.{AllPairs, Between, AreOnce, pairs_from, pairs_mapped, pairs_map, pairs_in_order, pairs_flat, pairs_of_flat, each_flat, between_turned, at_place, each_picked, pairs_picked, any_picked, each_kept, pairs_kept, any_kept}
+use Rattle.dvc_cli.proofs.PairLemmas.{AllPairs, Between, AreOnce, pairs_from, pairs_mapped, pairs_map, pairs_in_order, pairs_flat, pairs_of_flat, each_flat, between_turned, at_place, each_picked, pairs_picked, each_kept, pairs_kept}
 use Rattle.dvc_cli.proofs.SchemaLemmas.{HasKeysOnce}
 use Rattle.dvc_cli.proofs.ClearLemmas.{IsFar, IsClear, AreFree, AreClear}
-use Rattle.dvc_cli.proofs.TurnLemmas.{all_placed, once_placed, none_above}
+use Rattle.dvc_cli.proofs.TurnLemmas.{once_placed, none_above}
 
 -- ---- the paths of a stage, in order
 
@@ -223,27 +222,22 @@ any_made outs t s =
     ∙ any_map (out_of s.dir) (λ o. t o.path) s.outs
     ∙ sym (any_map (λ (out : WrittenOut). path_from s.dir out.path) t s.outs)
 
-any_planned : (outs : List Path) (t : Path → Bool) (ss : List Written) (ns : List ℕ) → ((n : ℕ) → n < length ss → is_in ns n ≡ true) →
-    list_any t (flat_map made_paths (map (stage_of outs) (with_turns (stages_at ss ns)))) ≡ list_any t (all_outs (with_turns ss))
-any_planned outs t ss ns all =
-    let placed = stages_at ss ns in
-    any_flat made_paths t (map (stage_of outs) (with_turns placed))
-    ∙ any_map (stage_of outs) (λ s. list_any t (made_paths s)) (with_turns placed)
-    ∙ any_same (λ s. list_any t (made_paths (stage_of outs s))) (λ s. list_any t (stage_outs s)) (any_made outs t) (with_turns placed)
-    ∙ any_kept has_turn (λ s. list_any t (stage_outs s)) placed
-    ∙ any_picked (λ s. has_turn s && list_any t (stage_outs s)) ss ns all
-    ∙ sym (any_kept has_turn (λ s. list_any t (stage_outs s)) ss)
-    ∙ sym (any_flat stage_outs t (with_turns ss))
+any_planned : (outs : List Path) (t : Path → Bool) (turns : List Written) → list_any t (flat_map made_paths (map (stage_of outs) turns)) ≡ list_any t (all_outs turns)
+any_planned outs t turns =
+    any_flat made_paths t (map (stage_of outs) turns)
+    ∙ any_map (stage_of outs) (λ s. list_any t (made_paths s)) turns
+    ∙ any_same (λ s. list_any t (made_paths (stage_of outs s))) (λ s. list_any t (stage_outs s)) (any_made outs t) turns
+    ∙ sym (any_flat stage_outs t turns)
 
 marked_by : (outs : List Path) (dir : Path) (texts : List (List ℕ)) → AllByRecursion (λ (d : Dep). d.inside ≡ list_any (is_within d.path) outs) (map (dep_of outs dir) texts)
 marked_by outs dir [] = tt
 marked_by outs dir (text ∷ texts) = (refl, marked_by outs dir texts)
 
-marked : (ss : List Written) (ns : List ℕ) → ((n : ℕ) → n < length ss → is_in ns n ≡ true) → (s : Written) → AreMarked (planned_at ss ns) (stage_of (all_outs (with_turns ss)) s)
-marked ss ns all s =
-    let outs = all_outs (with_turns ss) in
-    each_from (λ (d : Dep). d.inside ≡ list_any (is_within d.path) outs) (λ (d : Dep). d.inside ≡ list_any (is_within d.path) (flat_map made_paths (planned_at ss ns))) (stage_of outs s).deps
-    (λ d h. h ∙ sym (any_planned outs (is_within d.path) ss ns all))
+marked : (turns : List Written) (s : Written) → AreMarked (turns_of turns) (stage_of (all_outs turns) s)
+marked turns s =
+    let outs = all_outs turns in
+    each_from (λ (d : Dep). d.inside ≡ list_any (is_within d.path) outs) (λ (d : Dep). d.inside ≡ list_any (is_within d.path) (flat_map made_paths (turns_of turns))) (stage_of outs s).deps
+    (λ d h. h ∙ sym (any_planned outs (is_within d.path) turns))
     (each_in_order dep_text (λ (d : Dep). d.inside ≡ list_any (is_within d.path) outs) (looks_of outs s) (marked_by outs s.dir s.deps))
 
 -- ---- the order
@@ -312,16 +306,12 @@ ordered outs ss (n ∷ ns) h =
 
 -- ---- the whole
 
-pub usable : (ss : List Written) → AreClear ss → are_distinct (map (λ s. s.name) ss) ≡ true → AreUsable (planned ss)
-usable ss it distinct =
-    let outs = all_outs (with_turns ss) in
-    let above = all_above ss in
-    let ns = order above in
-    let behind = behind_order above in
-    let all : (n : ℕ) → n < length ss → is_in ns n ≡ true = all_placed ss it.no_cycle in
-    let once : AreOnce ns = once_placed above ns behind in
+pub usable : (ss : List Written) (ns : List ℕ) → AreClear ss → are_distinct (map (λ s. s.name) ss) ≡ true → StandsBehind (all_above ss) ns → AreUsable (planned_at ss ns)
+usable ss ns it distinct behind =
+    let once : AreOnce ns = once_placed (all_above ss) ns behind in
     let placed = stages_at ss ns in
     let turns = with_turns placed in
+    let outs = all_outs turns in
     let stages = map (stage_of outs) turns in
     let pairs = pairs_of_flat stage_outs AreFree ss it.apart in
     let each : AllByRecursion IsClear turns = each_kept has_turn IsClear placed (each_picked IsClear ss ns (λ n s inside e. at_place IsClear ss n s it.each e)) in
@@ -348,7 +338,7 @@ usable ss it distinct =
         order = ordered outs ss ns behind;
         apart = apart_from (flat_map made_paths stages) some made;
         kept = each_map (stage_of outs) (IsKept is_own) turns (each_from IsClear (λ s. IsKept is_own (stage_of outs s)) turns (kept outs) each);
-        marked = each_map (stage_of outs) (AreMarked (planned ss)) turns (each_from IsClear (λ s. AreMarked (planned ss) (stage_of outs s)) turns (λ s k. marked ss ns all s) each);
+        marked = each_map (stage_of outs) (AreMarked (turns_of turns)) turns (each_from IsClear (λ s. AreMarked (turns_of turns) (stage_of outs s)) turns (λ s k. marked turns s) each);
       };
       outside = each_map (stage_of outs) IsOutside turns (each_from IsClear (λ s. IsOutside (stage_of outs s)) turns (outside outs) each);
     }

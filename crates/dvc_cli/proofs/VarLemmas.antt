@@ -17,7 +17,7 @@ use Rattle.template_expand.specs.declared.files.VarFile.{VarFile}
 use Rattle.repro_laws.specs.Params.{params_answer}
 use Rattle.world_api.specs.Tree.{Tree, item_at}
 use Rattle.repro_core.proofs.TrackedLemmas.{all_more, fault_here}
-use Rattle.dvc_cli.specs.Read.{IsRead}
+use Rattle.workspace_files.specs.Read.{IsRead}
 use Rattle.dvc_cli.specs.Vars.{var_of, var_at, vars_at}
 
 memory_free : (fault : Fault) → fault ≡ f.NoMemory → IsTrue (is_free fault)

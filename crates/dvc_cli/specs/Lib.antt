@@ -1,3 +1,6 @@
+pub mod Words
+pub mod Targets
+pub mod Sources
 pub mod Plan
 pub mod Vars
 pub mod Read

@@ -1,11 +1,12 @@
 -- The plan of a `dvc.yaml`: its stages in the order of their turns, or the first of its refusals.
---     stage_of outs s       the stage that has a turn, from one as the schema reads it; `outs` are the outputs of all stages
+--     stage_of outs s       the stage that has a turn, from one as the schema reads it; `outs` are the outputs of all that have one
 --     stages_at ss ns       the stages at some places, in the order in which these are named
---     planned ss            the stages that have turns, in their order: all but the frozen ones
+--     turns_of ss           such stages, where these are all that have turns
+--     planned targets ss    those that the targets choose, in the order of their turns: all but the frozen ones
 --     schema_answer why     the answer to a refusal of the schema
---     plan_of root files    the stages of a node, with these files of variables
+--     plan_of targets root files sources    the stages of a node, with these files of variables, track files and `.dvcignore` files
 --     AreUsable stages      what is so of the stages of a plan
-use Rattle.std.specs.Prelude.{ℕ, Bool, not, ◌&&◌, ◌||◌, List, [], map, length, slice_get, Option, Some, None, Result, Ok, Err, ◌==◌, if◌then◌else◌}
+use Rattle.std.specs.Prelude.{ℕ, Bool, not, ◌&&◌, ◌||◌, List, map, length, slice_get, Option, Some, None, Result, Ok, Err, ◌==◌}
 use Rattle.std.specs.List.{AllByRecursion, list_any, filter, filter_map, flat_map}
 use Rattle.dvc_base.specs.Path.{Path, is_within}
 use Rattle.dvc_base.specs.Limits.{limit_of}
@@ -23,10 +24,9 @@ use Rattle.stage_schema.specs.declared.fault.ExpandFault.TheVariants as e
 use Rattle.stage_schema.specs.declared.stage.Out.{Out as WrittenOut}
 use Rattle.stage_schema.specs.declared.stage.ParamWant.{ParamWant}
 use Rattle.stage_schema.specs.declared.stage.Stage.{Stage as Written}
-use Rattle.stage_order.specs.Order.{order}
-use Rattle.stage_graph.specs.Cycle.{all_above}
 use Rattle.stage_graph.specs.Graph.{graph_fault}
 use Rattle.stage_graph.specs.Paths.{stage_outs}
+use Rattle.repro_laws.specs.Refusals.{first_fault}
 use Rattle.repro_laws.specs.Stage.{dep_text, out_text}
 use Rattle.repro_laws.specs.Headline.{IsPlanned}
 use Rattle.repro_laws.specs.Moments.{is_own}
@@ -35,6 +35,8 @@ use Rattle.repro_laws.specs.declared.stage.Dep.{Dep}
 use Rattle.repro_laws.specs.declared.stage.Out.{Out}
 use Rattle.repro_laws.specs.declared.stage.Tracked.{Tracked}
 use Rattle.repro_laws.specs.declared.stage.Stage.{Stage}
+use Rattle.dvc_cli.specs.Targets.{target_fault, chosen}
+use Rattle.dvc_cli.specs.declared.sources.Sources.{Sources}
 
 -- ---- its stages
 
@@ -90,11 +92,15 @@ all_outs ss = flat_map stage_outs ss
 abbrev pub stages_at : List Written → List ℕ → List Written
 stages_at ss ns = filter_map (slice_get ss) ns
 
-abbrev pub planned_at : List Written → List ℕ → List Stage
-planned_at ss ns = map (stage_of (all_outs (with_turns ss))) (with_turns (stages_at ss ns))
+abbrev pub turns_of : List Written → List Stage
+turns_of ss = map (stage_of (all_outs ss)) ss
 
-abbrev pub planned : List Written → List Stage
-planned ss = planned_at ss (order (all_above ss))
+abbrev pub planned_at : List Written → List ℕ → List Stage
+planned_at ss ns = turns_of (with_turns (stages_at ss ns))
+
+-- a chosen stage brings all that make what it reads, so it doesn't matter that the others are left out
+abbrev pub planned : List (List ℕ) → List Written → List Stage
+planned targets ss = planned_at ss (chosen targets ss)
 
 -- ---- what the schema refuses
 
@@ -111,23 +117,24 @@ schema_answer e.NoMemory = f.NoMemory
 
 -- ---- the plan
 
--- the refusals of the graph, where `vars` are the files of variables. Track files and ignore rules aren't read yet
-abbrev pub plan_fault : List Path → List Written → Option Fault
-plan_fault vars ss = graph_fault ss [] vars []
+-- the refusals of the graph, where `vars` are the files of variables
+abbrev pub plan_fault : Sources → List Path → List Written → Option Fault
+plan_fault sources vars ss = graph_fault ss sources.tracks vars sources.ignores
 
-abbrev pub stages_unless : Option Fault → List Written → Result (List Stage) Fault
-stages_unless None ss = Ok (planned ss)
-stages_unless (Some fault) ss = Err fault
+-- a target that is none comes after all of these
+abbrev pub stages_unless : Option Fault → List (List ℕ) → List Written → Result (List Stage) Fault
+stages_unless None targets ss = Ok (planned targets ss)
+stages_unless (Some fault) targets ss = Err fault
 
-abbrev pub plan_by : List Path → Result (List Written) ExpandFault → Result (List Stage) Fault
-plan_by vars (Ok ss) = stages_unless (plan_fault vars ss) ss
-plan_by vars (Err why) = Err (schema_answer why)
+abbrev pub plan_by : List (List ℕ) → Sources → List Path → Result (List Written) ExpandFault → Result (List Stage) Fault
+plan_by targets sources vars (Ok ss) = stages_unless (first_fault (plan_fault sources vars ss) (target_fault targets ss)) targets ss
+plan_by targets sources vars (Err why) = Err (schema_answer why)
 
 abbrev pub var_path : VarFile → Path
 var_path v = v.file
 
-unfoldable pub plan_of : Node → List VarFile → Result (List Stage) Fault
-plan_of root files = plan_by (map var_path files) (expansion root files)
+unfoldable pub plan_of : List (List ℕ) → Node → List VarFile → Sources → Result (List Stage) Fault
+plan_of targets root files sources = plan_by targets sources (map var_path files) (expansion root files)
 
 pub record AreUsable (stages : List Stage) : Type 0 where
   pub planned : IsPlanned is_own stages

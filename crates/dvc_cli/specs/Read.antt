@@ -1,45 +1,20 @@
 -- What is read of the workspace's two files.
---     IsRead got due        what was read is what is due, but for the free answers
---     text_at at item       the text at a path: none where nothing stands there; a folder and a text past the limit are refused
 --     root_at item          the node of `dvc.yaml`
 --     book_at item          what `dvc.lock` remembers
-use Rattle.std.specs.Prelude.{◌≡◌, ◌⊎◌, ℕ, List, [], length, nat_lt, Option, Some, None, Result, Ok, Err, IsTrue, ⊤, if◌then◌else◌}
-use Rattle.dvc_base.specs.Path.{Path}
-use Rattle.dvc_base.specs.Fault.{is_free}
-use Rattle.dvc_base.specs.Limits.{limit_of}
-use Rattle.dvc_base.specs.declared.limits.What.TheVariants.{YamlText}
+use Rattle.std.specs.Prelude.{ℕ, List, [], Option, Some, None, Result, Ok, Err}
 use Rattle.dvc_base.specs.declared.fault.Fault.{Fault}
 use Rattle.dvc_base.specs.declared.fault.Fault.TheVariants as f
 use Rattle.dvc_base.specs.declared.node.Node.{Node}
 use Rattle.dvc_base.specs.declared.node.Node.TheVariants.{Null}
 use Rattle.dvc_base.specs.declared.node.YamlFault.{YamlFault}
-use Rattle.world_api.specs.Tree.{Item, folder, file}
+use Rattle.world_api.specs.Tree.{Item}
 use Rattle.world_api.specs.Layout.{lock_path, yaml_path}
 use Rattle.yaml_nodes.specs.Document.{parse}
 use Rattle.lock_files.specs.Book.{Lock}
 use Rattle.lock_files.specs.Read.{lock_read}
 use Rattle.lock_files.specs.declared.fault.LockFault.{LockFault}
 use Rattle.lock_files.specs.declared.fault.LockFault.TheVariants as l
-
--- free are want of memory and the world's failures
-abbrev pub IsRead : {A : Type 0} → Result A Fault → Result A Fault → Type 0
-IsRead (Ok value) due = due ≡ Ok value
-IsRead (Err fault) due = IsTrue (is_free fault) ⊎ (due ≡ Err fault)
-
--- ---- texts
-
-abbrev pub short_text : List ℕ → Result (Option (List ℕ)) Fault
-short_text text = if nat_lt (limit_of YamlText) (length text) then Err (f.TooLarge YamlText (limit_of YamlText)) else Ok (Some text)
-
-abbrev pub text_at : Path → Option Item → Result (Option (List ℕ)) Fault
-text_at at None = Ok None
-text_at at (Some folder) = Err (f.NoFile at)
-text_at at (Some (file text)) = short_text text
-
--- a change of size is told of the file that was read, with the size that was told before
-abbrev pub IsChangeOf : Path → ℕ → Fault → Type 0
-IsChangeOf at size (f.Changed path told found) = (path ≡ at) × (told ≡ size)
-IsChangeOf at size _ = ⊤
+use Rattle.workspace_files.specs.Read.{text_at}
 
 -- ---- `dvc.yaml`
 

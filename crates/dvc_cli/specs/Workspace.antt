@@ -1,9 +1,9 @@
--- What the workspace says: its stages, and what is remembered of them.
---     plan_in t              the stages of a tree, or why it has none
---     stages_in t            its stages, where it has some
---     workspace_fault t      why a workspace can't be read: the first refusal in their order
---     workspace_of t         the workspace of a tree, where nothing is refused
-use Rattle.std.specs.Prelude.{List, ◌∷◌, ◌++◌, [], Option, Some, None, Result, Ok, Err}
+-- What the workspace says: its stages, and what is remembered of them. The stages are those that the targets choose.
+--     plan_in targets t            the stages of a tree, or why it has none
+--     stages_in targets t          its stages, where it has some
+--     workspace_fault targets t    why a workspace can't be read: the first refusal in their order
+--     workspace_of targets t       the workspace of a tree, where nothing is refused
+use Rattle.std.specs.Prelude.{ℕ, List, ◌∷◌, ◌++◌, [], Option, Some, None, Result, Ok, Err}
 use Rattle.std.specs.Result.{result_ok}
 use Rattle.dvc_base.specs.Answer.{fault_in}
 use Rattle.dvc_base.specs.declared.fault.Fault.{Fault}
@@ -21,23 +21,26 @@ use Rattle.template_expand.specs.declared.files.VarFile.{VarFile}
 use Rattle.repro_core.specs.Steps.{tracked_kinds}
 use Rattle.dvc_cli.specs.Plan.{plan_of}
 use Rattle.dvc_cli.specs.Vars.{vars_of}
+use Rattle.dvc_cli.specs.Sources.{sources_of}
 use Rattle.dvc_cli.specs.Read.{root_at, book_at}
+use Rattle.dvc_cli.specs.declared.sources.Sources.{Sources}
 
 -- ---- its stages
 
-abbrev pub plan_by_vars : Node → Result (List VarFile) Fault → Result (List Stage) Fault
-plan_by_vars root (Ok files) = plan_of root files
-plan_by_vars root (Err fault) = Err fault
+abbrev pub plan_by_files : List (List ℕ) → Node → Result (List VarFile) Fault → Result Sources Fault → Result (List Stage) Fault
+plan_by_files targets root (Ok files) (Ok sources) = plan_of targets root files sources
+plan_by_files targets root (Ok files) (Err fault) = Err fault
+plan_by_files targets root (Err fault) sources = Err fault
 
-abbrev pub plan_by_root : Tree → Result Node Fault → Result (List Stage) Fault
-plan_by_root t (Ok root) = plan_by_vars root (vars_of t root)
-plan_by_root t (Err fault) = Err fault
+abbrev pub plan_by_root : List (List ℕ) → Tree → Result Node Fault → Result (List Stage) Fault
+plan_by_root targets t (Ok root) = plan_by_files targets root (vars_of t root) (sources_of t)
+plan_by_root targets t (Err fault) = Err fault
 
-abbrev pub plan_in : Tree → Result (List Stage) Fault
-plan_in t = plan_by_root t (root_at (item_at t yaml_path))
+abbrev pub plan_in : List (List ℕ) → Tree → Result (List Stage) Fault
+plan_in targets t = plan_by_root targets t (root_at (item_at t yaml_path))
 
-abbrev pub stages_in : Tree → Option (List Stage)
-stages_in t = result_ok (plan_in t)
+abbrev pub stages_in : List (List ℕ) → Tree → Option (List Stage)
+stages_in targets t = result_ok (plan_in targets t)
 
 -- ---- what is refused of it
 
@@ -54,34 +57,40 @@ graph_kinds = k.NoMemory ∷ k.Outside ∷ k.Reserved ∷ k.Duplicate ∷ k.Over
 abbrev pub schema_kinds : List FaultKind
 schema_kinds = k.NoVariable ∷ k.NotScalar ∷ k.NoFile ∷ k.NoKey ∷ k.TooLarge ∷ k.Schema ∷ k.Unsupported ∷ k.Outside ∷ k.NoMemory ∷ []
 
+-- of targets
+abbrev pub target_kinds : List FaultKind
+target_kinds = k.NoMemory ∷ k.NoStage ∷ []
+
 abbrev pub plan_kinds : List FaultKind
-plan_kinds = schema_kinds ++ graph_kinds
+plan_kinds = schema_kinds ++ (graph_kinds ++ target_kinds)
 
 -- of files of variables
 abbrev pub vars_kinds : List FaultKind
 vars_kinds = tracked_kinds ++ schema_kinds
 
 abbrev pub read_kinds : List FaultKind
-read_kinds = k.NotFolder ∷ file_kinds ++ plan_kinds
+read_kinds = k.NotFolder ∷ k.IgnoreRules ∷ file_kinds ++ plan_kinds
 
 -- a file stands where the folder of the tool's own has to be
 abbrev pub place_fault : Option Item → Option Fault
 place_fault (Some (file bytes)) = Some (NotFolder dvc_path)
 place_fault _ = None
 
--- behind the node of `dvc.yaml`: the files of variables, the lock, and then what `dvc.yaml` says
-abbrev pub rest_fault : Tree → Node → Option Fault
-rest_fault t root =
+-- behind the node of `dvc.yaml`: the files of variables, the walk with the `.dvcignore` and track files that it finds, the
+-- lock, and then what `dvc.yaml` says
+abbrev pub rest_fault : List (List ℕ) → Tree → Node → Option Fault
+rest_fault targets t root =
     first_fault (fault_in (vars_of t root))
-    (first_fault (fault_in (book_at (item_at t lock_path))) (fault_in (plan_by_root t (Ok root))))
+    (first_fault (fault_in (sources_of t))
+    (first_fault (fault_in (book_at (item_at t lock_path))) (fault_in (plan_by_root targets t (Ok root)))))
 
-abbrev pub rest_by_root : Tree → Result Node Fault → Option Fault
-rest_by_root t (Ok root) = rest_fault t root
-rest_by_root t (Err fault) = Some fault
+abbrev pub rest_by_root : List (List ℕ) → Tree → Result Node Fault → Option Fault
+rest_by_root targets t (Ok root) = rest_fault targets t root
+rest_by_root targets t (Err fault) = Some fault
 
 -- the folder of the tool's own, and the text of `dvc.yaml`, come before
-abbrev pub workspace_fault : Tree → Option Fault
-workspace_fault t = first_fault (place_fault (item_at t dvc_path)) (rest_by_root t (root_at (item_at t yaml_path)))
+abbrev pub workspace_fault : List (List ℕ) → Tree → Option Fault
+workspace_fault targets t = first_fault (place_fault (item_at t dvc_path)) (rest_by_root targets t (root_at (item_at t yaml_path)))
 
 -- ---- what it is about
 
@@ -94,5 +103,5 @@ abbrev pub workspace_by : Option Fault → Option (List Stage) → Option Lock �
 workspace_by None (Some stages) (Some lock) = Some (record { stages = stages; lock = lock })
 workspace_by _ _ _ = None
 
-abbrev pub workspace_of : Tree → Option Workspace
-workspace_of t = workspace_by (workspace_fault t) (stages_in t) (lock_of t)
+abbrev pub workspace_of : List (List ℕ) → Tree → Option Workspace
+workspace_of targets t = workspace_by (workspace_fault targets t) (stages_in targets t) (lock_of t)

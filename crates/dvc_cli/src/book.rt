@@ -11,13 +11,14 @@ ghost use Rattle.world_api.specs.Layout.{lock_path};
 ghost use Rattle.world_api.specs.Outside.{tree_of, IsUntouched};
 ghost use Rattle.lock_files.specs.Form.{IsBook};
 ghost use Rattle.lock_files.specs.Read.{lock_read};
-ghost use Rattle.dvc_cli.specs.Read.{IsRead, lock_answer, lock_or, book_at};
+ghost use Rattle.workspace_files.specs.Read.{IsRead};
+ghost use Rattle.dvc_cli.specs.Read.{lock_answer, lock_or, book_at};
 ghost use Rattle.dvc_cli.specs.Workspace.{file_kinds, parse_kinds};
 
-use crate::read::read_text;
 use dvc_base::{Bytes, Fault, Rel};
 use lock_files::{LockBook, LockFault, read_lock};
 use std::alloc::Global;
+use workspace_files::read_text;
 use world_api::{ReadFiles, lock_path};
 
 /// What is remembered: nothing where no lock stands.

@@ -5,21 +5,18 @@ ghost use Rattle.dvc_base.specs.declared.fault.Fault.TheVariants.{WorldFault, Ou
 ghost use Rattle.world_api.specs.History.{IsCaused};
 ghost use Rattle.world_api.specs.Outside.{WithEffect};
 ghost use Rattle.dvc_cli.specs.Tell.{fault_line, Tells};
-ghost use Rattle.dvc_cli.specs.Command.{is_repro, exit_status, DoesCommand, Refuses, Answers, PutsReport};
+ghost use Rattle.dvc_cli.specs.declared.words.Request.TheVariants.{Repro};
+ghost use Rattle.dvc_cli.specs.Command.{exit_status, DoesCommand, Refuses, Answers, PutsReport};
+ghost use Rattle.dvc_cli.specs.Words.{asked};
 
 use crate::message::tell;
+use crate::words::{Request, read_words};
 use crate::workspace::read_workspace;
-use dvc_base::{Fault, Texts};
+use dvc_base::{Fault, Text, Texts};
 use repro_core::repro;
 use repro_laws::Flags;
 use std::alloc::Global;
 use world_api::{Sink, World};
-
-// Nothing is forced, and no output comes back from the cache.
-const NO_FLAGS: Flags = Flags {
-    force: false,
-    run_cache: false,
-};
 
 /// How a call of the program ended: its exit status, and the fault that it told, if there is one.
 #[derive(Drop)]
@@ -30,7 +27,7 @@ pub struct Done {
 
 /// Does what the words say: reads the workspace, takes the turns of its stages, and tells a fault on `err`.
 ///
-/// The words are those after the program's name; the only ones so far are `repro`.
+/// The words are those after the program's name. So far there is one command: `repro`, with `-f` or `--force`, and with targets.
 pub fn dvc<W: World, K: Sink>(
     alloc: Global,
     words: &Texts,
@@ -38,15 +35,15 @@ pub fn dvc<W: World, K: Sink>(
     out: &mut K,
     err: &mut K,
 ) -> Done
-    // Ok leaves the outputs and the lock's entries that running every stage anew in dependency order gives, and all else as
-    // before: where what was remembered is true, and no two contents met share an MD5. `DoesCommand` has that and what is
+    // Ok leaves the outputs and the lock's entries that running every stage anew in dependency order gives, of those that the
+    // targets choose, and all else as before: where what was remembered is true, and no two contents met share an MD5. `DoesCommand` has that and what is
     // left by a refusal and by a stop, a line each.
     ensures does { WithEffect W.tells (W.history world.old) (λ effect.
-        DoesCommand words.now effect result.fault (W.history world.old) (W.history world.new)) }
+        DoesCommand (asked words.now) effect result.fault (W.history world.old) (W.history world.new)) }
     ensures refuses { IsTrue W.tells →
-        Refuses words.now result.fault (W.history world.old) (W.history world.new) }
-    ensures kinds { Answers words.now W.tells result.fault }
-    ensures puts { IsTrue K.tells → PutsReport words.now W.tells result.fault
+        Refuses (asked words.now) result.fault (W.history world.old) (W.history world.new) }
+    ensures kinds { Answers (asked words.now) W.tells result.fault }
+    ensures puts { IsTrue K.tells → PutsReport (asked words.now) W.tells result.fault
         (W.history world.old) (W.history world.new) (K.taken out.old) (K.taken out.new) }
     ensures world_cause { IsCaused (W.faults world.old) (W.faults world.new) (result.fault ≡ Some WorldFault) }
     ensures out_cause { IsCaused (K.faults out.old) (K.faults out.new) (result.fault ≡ Some OutFault) }
@@ -81,35 +78,53 @@ fn perform<W: World, K: Sink>(
     out: &mut K,
 ) -> Result<(), Fault>
     ensures does { WithEffect W.tells (W.history world.old) (λ effect.
-        DoesCommand words.now effect (fault_in result) (W.history world.old) (W.history world.new)) }
+        DoesCommand (asked words.now) effect (fault_in result) (W.history world.old) (W.history world.new)) }
     ensures refuses { IsTrue W.tells →
-        Refuses words.now (fault_in result) (W.history world.old) (W.history world.new) }
-    ensures kinds { Answers words.now W.tells (fault_in result) }
-    ensures puts { IsTrue K.tells → PutsReport words.now W.tells (fault_in result)
+        Refuses (asked words.now) (fault_in result) (W.history world.old) (W.history world.new) }
+    ensures kinds { Answers (asked words.now) W.tells (fault_in result) }
+    ensures puts { IsTrue K.tells → PutsReport (asked words.now) W.tells (fault_in result)
         (W.history world.old) (W.history world.new) (K.taken out.old) (K.taken out.new) }
     ensures world_cause { IsCaused (W.faults world.old) (W.faults world.new) (fault_in result ≡ Some WorldFault) }
     ensures out_cause { IsCaused (K.faults out.old) (K.faults out.new) (fault_in result ≡ Some OutFault) }
 {
-    if !is_repro(words) {
-        return Err(Fault::BadWords);
+    match read_words(alloc, words) {
+        Ok(Request::Repro { force, targets }) => {
+            reproduce(alloc, force, targets.as_slice(), world, out)
+        }
+        Err(fault) => Err(fault),
     }
-    let mut workspace = read_workspace(alloc, world)?;
+}
+
+// Takes the turns of the stages that the targets choose.
+fn reproduce<W: World, K: Sink>(
+    alloc: Global,
+    force: bool,
+    targets: &[Text],
+    world: &mut W,
+    out: &mut K,
+) -> Result<(), Fault>
+    ensures does { WithEffect W.tells (W.history world.old) (λ effect.
+        DoesCommand (Some (Repro force targets.now)) effect (fault_in result) (W.history world.old) (W.history world.new)) }
+    ensures refuses { IsTrue W.tells →
+        Refuses (Some (Repro force targets.now)) (fault_in result) (W.history world.old) (W.history world.new) }
+    ensures kinds { Answers (Some (Repro force targets.now)) W.tells (fault_in result) }
+    ensures puts { IsTrue K.tells → PutsReport (Some (Repro force targets.now)) W.tells (fault_in result)
+        (W.history world.old) (W.history world.new) (K.taken out.old) (K.taken out.new) }
+    ensures world_cause { IsCaused (W.faults world.old) (W.faults world.new) (fault_in result ≡ Some WorldFault) }
+    ensures out_cause { IsCaused (K.faults out.old) (K.faults out.new) (fault_in result ≡ Some OutFault) }
+{
+    let mut workspace = read_workspace(alloc, world, targets)?;
+    // No output comes back from the cache yet.
+    let flags = Flags {
+        force,
+        run_cache: false,
+    };
     repro(
         alloc,
         world,
         &mut workspace.lock,
         workspace.stages.as_slice(),
-        NO_FLAGS,
+        flags,
         out,
     )
-}
-
-// The one command so far.
-fn is_repro(words: &Texts) -> bool
-    ensures { result ≡ is_repro words.now }
-{
-    match words.as_slice() {
-        [word] => word.as_str() == "repro",
-        _ => false,
-    }
 }

@@ -8,10 +8,12 @@ mod law;
 mod message;
 mod plan;
 mod planned;
-mod read;
 mod room;
 mod root;
+mod sources;
+mod targets;
 mod vars;
+mod words;
 mod workspace;
 
 pub use command::{Done, dvc};

@@ -3,12 +3,17 @@ ghost use Rattle.std.specs.Prelude.{◌≡◌, ◌⊎◌, ◌<◌, ◌^◌, leng
 ghost use Rattle.dvc_base.specs.Answer.{fault_in};
 ghost use Rattle.dvc_base.specs.Fault.{MayBe};
 ghost use Rattle.dvc_base.specs.declared.fault.Fault.TheVariants.{NoMemory as Memory};
+ghost use Rattle.repro_laws.specs.Refusals.{first_fault};
+ghost use Rattle.stage_graph.specs.Graph.{graph_of};
 ghost use Rattle.dvc_cli.specs.Plan.{schema_answer, plan_fault, stages_unless, var_path, plan_of};
-ghost use Rattle.dvc_cli.specs.Read.{IsRead};
+ghost use Rattle.dvc_cli.specs.Targets.{target_fault};
+ghost use Rattle.workspace_files.specs.Read.{IsRead};
 ghost use Rattle.dvc_cli.specs.Workspace.{schema_kinds, plan_kinds};
 
 use crate::planned::planned;
-use dvc_base::{Fault, NoMemory, Node, Plain, Rel, Rels, What};
+use crate::sources::Sources;
+use crate::targets::{check_targets, chosen};
+use dvc_base::{Fault, NoMemory, Node, Plain, Rel, Rels, Text, What};
 use repro_laws::Stages;
 use stage_graph::Graph;
 use stage_schema::{ExpandFault, Stage as Written};
@@ -16,16 +21,24 @@ use std::alloc::Global;
 use template_expand::{VarFile, expand};
 use world_api::yaml_path;
 
-/// The stages that the node of a `dvc.yaml` says, with these files of variables, in the order of their turns.
+/// The stages that the node of a `dvc.yaml` says, with these files of variables: those that the targets choose, in the order of
+/// their turns. No output may be in the way of a track, or of a file that the tool reads.
 ///
-/// What the schema refuses comes first, then what the graph of stages refuses.
+/// What the schema refuses comes first, then what the graph of stages refuses, and then a target that is none.
 #[tactic(auto, unfolding(crate::specs::Plan::plan_of))]
-pub(crate) fn plan_of(alloc: Global, root: &Node, files: &[VarFile]) -> Result<Stages, Fault>
-    ensures plan { IsRead result (plan_of root.now files.now) }
+pub(crate) fn plan_of(
+    alloc: Global,
+    root: &Node,
+    files: &[VarFile],
+    sources: &Sources,
+    targets: &[Text],
+) -> Result<Stages, Fault>
+    requires few_tracks { length sources.now.tracks < 2 ^ 32 }
+    ensures plan { IsRead result (plan_of targets.now root.now files.now sources.now) }
     ensures kinds { MayBe plan_kinds (fault_in result) }
 {
     match expand(alloc, root, files) {
-        Ok(written) => plan_from(alloc, written.as_slice(), files),
+        Ok(written) => plan_from(alloc, written.as_slice(), files, sources, targets),
         Err(why) => Err(schema_answer(alloc, why)),
     }
 }
@@ -55,13 +68,22 @@ pub(crate) fn schema_answer(alloc: Global, why: ExpandFault) -> Fault
 }
 
 // The same from the stages as the schema reads them.
-fn plan_from(alloc: Global, written: &[Written], files: &[VarFile]) -> Result<Stages, Fault>
+fn plan_from(
+    alloc: Global,
+    written: &[Written],
+    files: &[VarFile],
+    sources: &Sources,
+    targets: &[Text],
+) -> Result<Stages, Fault>
     requires few { length written.now < 2 ^ 32 }
-    ensures plan { IsRead result (stages_unless (plan_fault (map var_path files.now) written.now) written.now) }
+    requires few_tracks { length sources.now.tracks < 2 ^ 32 }
+    ensures plan { IsRead result (stages_unless
+        (first_fault (plan_fault sources.now (map var_path files.now) written.now) (target_fault targets.now written.now))
+        targets.now written.now) }
     ensures kinds { MayBe plan_kinds (fault_in result) }
 {
     let vars = var_paths(alloc, files)?;
-    plan_with(alloc, written, vars.as_slice())
+    plan_with(alloc, written, vars.as_slice(), sources, targets)
 }
 
 // The paths of files of variables.
@@ -75,11 +97,43 @@ fn var_paths(alloc: Global, files: &[VarFile]) -> Result<Rels, NoMemory>
     Ok(paths)
 }
 
-fn plan_with(alloc: Global, written: &[Written], vars: &[Rel]) -> Result<Stages, Fault>
+fn plan_with(
+    alloc: Global,
+    written: &[Written],
+    vars: &[Rel],
+    sources: &Sources,
+    targets: &[Text],
+) -> Result<Stages, Fault>
     requires few { length written.now < 2 ^ 32 }
-    ensures plan { IsRead result (stages_unless (plan_fault vars.now written.now) written.now) }
+    requires few_tracks { length sources.now.tracks < 2 ^ 32 }
+    ensures plan { IsRead result (stages_unless
+        (first_fault (plan_fault sources.now vars.now written.now) (target_fault targets.now written.now))
+        targets.now written.now) }
     ensures kinds { MayBe plan_kinds (fault_in result) }
 {
-    let graph = Graph::make(alloc, written, &[], vars, &[])?;
-    Ok(planned(alloc, written, graph.order())?)
+    let graph = Graph::make(
+        alloc,
+        written,
+        sources.tracks.as_slice(),
+        vars,
+        sources.ignores.as_slice(),
+    )?;
+    plan_in(alloc, written, &graph, targets)
+}
+
+// Where the graph refuses nothing.
+fn plan_in(
+    alloc: Global,
+    written: &[Written],
+    graph: &Graph,
+    targets: &[Text],
+) -> Result<Stages, Fault>
+    requires few { length written.now < 2 ^ 32 }
+    requires graph { graph.now ≡ graph_of written.now }
+    ensures plan { IsRead result (stages_unless (target_fault targets.now written.now) targets.now written.now) }
+    ensures kinds { MayBe plan_kinds (fault_in result) }
+{
+    check_targets(alloc, written, targets)?;
+    let places = chosen(alloc, written, graph, targets)?;
+    Ok(planned(alloc, written, places.as_slice())?)
 }

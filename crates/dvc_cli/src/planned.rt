@@ -16,7 +16,7 @@ use std::alloc::Global;
 pub(crate) fn planned(alloc: Global, written: &[Written], order: &[u32]) -> Result<Stages, NoMemory>
     ensures exact { IfOk result (λ stages. stages ≡ planned_at written.now order.now) }
 {
-    let outs = all_outs(alloc, written)?;
+    let outs = all_outs(alloc, written, order)?;
     let index = PathIndex::of(alloc, outs)?;
     stages_at(alloc, written, order, &index)
 }
@@ -29,14 +29,29 @@ fn has_turn(stage: &Written) -> bool
 }
 
 // The outputs of the stages that have turns.
-fn all_outs(alloc: Global, written: &[Written]) -> Result<Rels, NoMemory>
-    ensures exact { IfOk result (λ paths. paths ≡ all_outs (with_turns written.now)) }
+fn all_outs(alloc: Global, written: &[Written], order: &[u32]) -> Result<Rels, NoMemory>
+    ensures exact { IfOk result (λ paths. paths ≡ all_outs (with_turns (stages_at written.now order.now))) }
 {
     let mut paths = Rels::new(alloc);
-    for stage in written {
-        push_stage_outs(alloc, &mut paths, stage)?;
+    for number in order {
+        push_outs_at(alloc, &mut paths, written, *number)?;
     }
     Ok(paths)
+}
+
+fn push_outs_at(
+    alloc: Global,
+    paths: &mut Rels,
+    written: &[Written],
+    number: u32,
+) -> Result<(), NoMemory>
+    ensures ok { OnOk result
+        (paths.new ≡ paths.old ++ all_outs (with_turns (stages_at written.now (number ∷ [])))) }
+{
+    match written.get(number as usize) {
+        Some(stage) => push_stage_outs(alloc, paths, stage),
+        None => Ok(()),
+    }
 }
 
 fn push_stage_outs(alloc: Global, paths: &mut Rels, stage: &Written) -> Result<(), NoMemory>

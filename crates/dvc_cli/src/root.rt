@@ -11,12 +11,13 @@ ghost use Rattle.world_api.specs.Layout.{yaml_path};
 ghost use Rattle.world_api.specs.Outside.{tree_of, IsUntouched};
 ghost use Rattle.yaml_nodes.specs.Document as yaml;
 ghost use Rattle.yaml_print.specs.Sound.{IsPrintable};
-ghost use Rattle.dvc_cli.specs.Read.{IsRead, node_or, root_at};
+ghost use Rattle.workspace_files.specs.Read.{IsRead};
+ghost use Rattle.dvc_cli.specs.Read.{node_or, root_at};
 ghost use Rattle.dvc_cli.specs.Workspace.{file_kinds, parse_kinds};
 
-use crate::read::read_text;
 use dvc_base::{Bytes, Fault, Node, Rel, YamlFault};
 use std::alloc::Global;
+use workspace_files::read_text;
 use world_api::{ReadFiles, yaml_path};
 use yaml_profile::parse;
 

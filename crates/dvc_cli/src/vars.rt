@@ -7,7 +7,7 @@ ghost use Rattle.world_api.specs.Tree.{item_at};
 ghost use Rattle.world_api.specs.History.{IsCaused};
 ghost use Rattle.world_api.specs.Outside.{tree_of, IsUntouched};
 ghost use Rattle.params.specs.Read.{params_at};
-ghost use Rattle.dvc_cli.specs.Read.{IsRead};
+ghost use Rattle.workspace_files.specs.Read.{IsRead};
 ghost use Rattle.dvc_cli.specs.Vars.{var_of, var_at, vars_at, vars_of};
 ghost use Rattle.repro_core.specs.Steps.{tracked_kinds};
 ghost use Rattle.dvc_cli.specs.Workspace.{vars_kinds};

@@ -16,8 +16,9 @@ ghost use Rattle.dvc_cli.specs.Workspace.{stages_in, place_fault, plan_by_root, 
 use crate::book::read_book;
 use crate::plan::plan_of;
 use crate::root::read_root;
+use crate::sources::read_sources;
 use crate::vars::read_vars;
-use dvc_base::{Fault, Node};
+use dvc_base::{Fault, Node, Text};
 use lock_files::LockBook;
 use repro_laws::Stages;
 use std::alloc::Global;
@@ -30,21 +31,26 @@ pub(crate) struct Workspace {
     pub(crate) lock: LockBook,
 }
 
-/// Reads `dvc.yaml`, the files of variables that it names, and `dvc.lock`. The lock's refusals come before those of what
-/// `dvc.yaml` says.
+/// Reads `dvc.yaml`, the files of variables that it names, the `.dvcignore` files and track files that stand in the workspace,
+/// and `dvc.lock`, in this order. The refusals of what `dvc.yaml` says come behind theirs, and a target that is none comes last.
+/// The stages are those that the targets choose.
 // Its buffers are no part of the caller's frame, which stays during the turns.
 #[inline(never)]
-pub(crate) fn read_workspace<F: ReadFiles>(alloc: Global, files: &mut F) -> Result<Workspace, Fault>
+pub(crate) fn read_workspace<F: ReadFiles>(
+    alloc: Global,
+    files: &mut F,
+    targets: &[Text],
+) -> Result<Workspace, Fault>
     ensures ready { IfOk result (λ workspace. AreUsable workspace.stages) }
     ensures form { IfOk result (λ workspace. IsBook workspace.lock) }
     ensures planned { IsTrue F.tells → IfOk result (λ workspace.
-        stages_in (tree_of (F.history files.old)) ≡ Some workspace.stages) }
+        stages_in targets.now (tree_of (F.history files.old)) ≡ Some workspace.stages) }
     ensures remembered { IsTrue F.tells → IfOk result (λ workspace.
         lock_of (tree_of (F.history files.old)) ≡ Some workspace.lock) }
     ensures place { IsTrue F.tells → IfOk result (λ workspace.
         CanWrite lock_path (tree_of (F.history files.old))) }
     ensures answer { IsTrue F.tells →
-        IsAnswer (fault_in result) (workspace_fault (tree_of (F.history files.old))) }
+        IsAnswer (fault_in result) (workspace_fault targets.now (tree_of (F.history files.old))) }
     ensures unchanged { IsUntouched F.tells (F.history files.old) (F.history files.new) }
     ensures kinds { MayBe read_kinds (fault_in result) }
     ensures honest { IsHonest F.tells (fault_in result) }
@@ -52,30 +58,36 @@ pub(crate) fn read_workspace<F: ReadFiles>(alloc: Global, files: &mut F) -> Resu
 {
     check_place(alloc, files)?;
     let root = read_root(alloc, files)?;
-    read_rest(alloc, files, &root)
+    read_rest(alloc, files, &root, targets)
 }
 
-// What is read behind the node of `dvc.yaml`: the files of variables, and the lock. Then the stages are told.
-fn read_rest<F: ReadFiles>(alloc: Global, files: &mut F, root: &Node) -> Result<Workspace, Fault>
+// What is read behind the node of `dvc.yaml`. Then the stages are told.
+fn read_rest<F: ReadFiles>(
+    alloc: Global,
+    files: &mut F,
+    root: &Node,
+    targets: &[Text],
+) -> Result<Workspace, Fault>
     requires place { IsTrue F.tells → place_fault (item_at (tree_of (F.history files.old)) dvc_path) ≡ None }
     ensures ready { IfOk result (λ workspace. AreUsable workspace.stages) }
     ensures form { IfOk result (λ workspace. IsBook workspace.lock) }
     ensures planned { IsTrue F.tells → IfOk result (λ workspace.
-        plan_by_root (tree_of (F.history files.old)) (Ok root.now) ≡ Ok workspace.stages) }
+        plan_by_root targets.now (tree_of (F.history files.old)) (Ok root.now) ≡ Ok workspace.stages) }
     ensures remembered { IsTrue F.tells → IfOk result (λ workspace.
         lock_of (tree_of (F.history files.old)) ≡ Some workspace.lock) }
     ensures place { IsTrue F.tells → IfOk result (λ workspace.
         CanWrite lock_path (tree_of (F.history files.old))) }
     ensures answer { IsTrue F.tells →
-        IsAnswer (fault_in result) (rest_fault (tree_of (F.history files.old)) root.now) }
+        IsAnswer (fault_in result) (rest_fault targets.now (tree_of (F.history files.old)) root.now) }
     ensures unchanged { IsUntouched F.tells (F.history files.old) (F.history files.new) }
     ensures kinds { MayBe read_kinds (fault_in result) }
     ensures honest { IsHonest F.tells (fault_in result) }
     ensures cause { IsCaused (F.faults files.old) (F.faults files.new) (IsErrOf result WorldFault) }
 {
     let vars = read_vars(alloc, files, root)?;
+    let sources = read_sources(alloc, files)?;
     let lock = read_book(alloc, files)?;
-    match plan_of(alloc, root, vars.as_slice()) {
+    match plan_of(alloc, root, vars.as_slice(), &sources, targets) {
         Ok(stages) => Ok(Workspace { stages, lock }),
         Err(fault) => Err(fault),
     }

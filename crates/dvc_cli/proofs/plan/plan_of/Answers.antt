@@ -3,8 +3,8 @@ use Rattle.std.proofs.Common.{◌≡◌, ◌≤◌, length, ap, arith}
 use Rattle.dvc_cli.proofs.SchemaLemmas.{few_stages}
 use Rattle.dvc_cli.proofs.plan.plan_of.Goals as goal
 
-pub plan_from-requires : goal.plan_from-requires
-plan_from-requires c =
+pub plan_from-requires-clause-few : goal.plan_from-requires-clause-few
+plan_from-requires-clause-few c =
     let most : length c.in-Ok.written ≤ 10000 = few_stages c.args.root.now c.args.files.now c.in-Ok.written c.in-Ok.ensures.answer in
     let same : length c.as_slice.result.now ≡ length c.in-Ok.written = ap length c.as_slice.ensures.same in
-    record { few = omega (arith, most, same) }
+    omega (arith, most, same)

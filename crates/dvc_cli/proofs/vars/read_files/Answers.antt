@@ -5,7 +5,7 @@ use Rattle.world_api.specs.Tree.{item_at}
 use Rattle.world_api.specs.History.{History}
 use Rattle.world_api.specs.Outside.{tree_of}
 use Rattle.template_expand.specs.declared.files.VarFile.{VarFile}
-use Rattle.dvc_cli.specs.Read.{IsRead}
+use Rattle.workspace_files.specs.Read.{IsRead}
 use Rattle.dvc_cli.specs.Vars.{var_at}
 use Rattle.dvc_cli.proofs.VarLemmas.{files_stop, files_more}
 use Rattle.dvc_cli.proofs.vars.read_files.Goals as goal
