@@ -139,6 +139,35 @@ def skips(bench, folder):
     bench.row("3,000 stages with a file each, all skipped", folder, yardsticks)
 
 
+def copies(folder, count, in_chain):
+    """Writes so many stages that copy a file and have all run, for the program and ninja; gives the files. The lock is written here, since the
+    program prints it anew after each run."""
+    texts, builds, entries, files = [], ["rule copy\n  command = cp $in $out\n"], [], {}
+    for number in range(count):
+        source, made = "in0" if in_chain and not number else f"out{number - 1}" if in_chain else f"in{number}", f"out{number}"
+        text = files.setdefault(source, f"input {number}".encode())
+        files[made] = text
+        texts.append(stage(f"s{number}", f"cp {source} {made}", [source], [made]))
+        builds.append(f"build {made}: copy {source}\n")
+        entries.append(entry(f"s{number}", f"cp {source} {made}", {source: text}, {made: text}))
+    for name, text in files.items():
+        write(folder, name, text)
+    write(folder, "dvc.yaml", stages(*texts))
+    write(folder, "dvc.lock", lock(entries))
+    write(folder, "build.ninja", "".join(builds))
+    return list(files)
+
+
+def nothing_to_do(bench, folder):
+    """10,000 stages with nothing to do, side by side and in a chain. The first run puts the outputs into the cache."""
+    for what, in_chain in (("side by side", False), ("in a chain", True)):
+        place = os.path.join(folder, what.replace(" ", "-"))
+        os.mkdir(place)
+        files = copies(place, 10_000, in_chain)
+        settled(place, ["ninja"])
+        bench.row(f"10,000 stages {what}, with nothing to do", place, [Yardstick(("ninja",)), Yardstick(("md5sum", *files))], 3)
+
+
 def grid(side, *keys):
     """A stage that stands for each choice of a matrix of two, and is frozen, so that none has a turn."""
     numbers = ", ".join(map(str, range(side)))
@@ -226,7 +255,7 @@ def puts_in_memory(bench, _):
         put(bench, folder, "on a disk in memory, without syncs", [])
 
 
-ROWS = [start_up, large_files, runs, skips, matrix, falling_order, long_locks, puts, puts_in_memory]
+ROWS = [start_up, large_files, runs, skips, nothing_to_do, matrix, falling_order, long_locks, puts, puts_in_memory]
 
 
 def main():

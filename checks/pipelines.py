@@ -1,5 +1,5 @@
 #!/usr/bin/env python3
-"""Tries parameters, templates, frozen stages and options of outputs over real files.
+"""Tries parameters, templates, frozen stages, options of outputs and targets over real files.
 
 The examples of docs/GUIDE.md, which have to stand there letter by letter; pipelines as DVC's documentation describes them, written
 anew: tracked parameters, `${model.lr}`, `foreach` over a list and a mapping, a `matrix` of two by two, `vars` from a file with chosen
@@ -26,9 +26,9 @@ class Project:
         for name, text in texts.items():
             write(self.folder, name.replace("__", "."), text)
 
-    def told(self):
-        """What a `repro` answers: its lines, or the fault's text."""
-        status, lines, errors = repro(self.folder)
+    def told(self, *words):
+        """What a `repro` with these words answers: its lines, or the fault's text."""
+        status, lines, errors = repro(self.folder, ("repro", *words))
         return lines if status == 0 else (lines, errors.removeprefix("ERROR: ").removesuffix("\n"))
 
     def read(self, name):
@@ -260,6 +260,39 @@ def check_frozen(room):
     expect("and is left as it is", (project.read("mid"), project.read("out")), ("edited", "edited"))
 
 
+# ---- targets
+
+TARGETS = """stages:
+  other: {cmd: cp in other.txt, deps: [in], outs: [other.txt]}
+  down: {cmd: cp x.txt y.txt, deps: [x.txt], outs: [y.txt]}
+  up: {cmd: cp in x.txt, deps: [in], outs: [x.txt]}
+  words:
+    foreach: [red, green]
+    do: {cmd: 'cp in ${item}', deps: [in], outs: ["${item}"]}
+"""
+
+
+def check_targets(room):
+    """Targets bring the stages above them, in order, and leave the others with their entries as they are."""
+    project = Project(room, {"dvc.yaml": TARGETS.encode(), "in": b"abc"})
+    up, down = runs("up", "cp in x.txt"), runs("down", "cp x.txt y.txt")
+    red, green = runs("words@red", "cp in red"), runs("words@green", "cp in green")
+    expect("a target", project.told("down"), up + down)
+    expect("another stage", project.read("other.txt"), None)
+    expect("a group", project.told("words"), red + green)
+    expect("two targets", project.told("words@green", "up"), skips("up") + skips("words@green"))
+    project.put(**{"in": "abd"})
+    expect("after an edit", project.told("up"), up)
+    expect("what is left", [project.read(name) for name in ("x.txt", "y.txt", "red")], ["abd", "abc", "abc"])
+    values = {"x.txt": b"abd", "y.txt": b"abc", "red": b"abc", "green": b"abc"}
+    expect("the other entries", project.read("dvc.lock"), lock([
+        entry("up", "cp in x.txt", {"in": b"abd"}, {"x.txt": values["x.txt"]}), entry("down", "cp x.txt y.txt", {"x.txt": b"abc"}, {"y.txt": values["y.txt"]}),
+        entry("words@red", "cp in red", {"in": b"abc"}, {"red": values["red"]}), entry("words@green", "cp in green", {"in": b"abc"}, {"green": values["green"]})]))
+    expect("what is forced", project.told("-f", "down"), up + down)
+    expect("the rest", project.told(), runs("other", "cp in other.txt") + skips("up") + skips("down") + red + green)
+    expect("a target that is none", project.told("down", "x.txt"), ("", "no stage or file 'x.txt'"))
+
+
 # ---- pipelines as they are documented
 
 DOCUMENTED = {
@@ -377,8 +410,8 @@ def check_hostile(room):
 
 
 CHECKS = {
-    "guide": check_guide, "four": check_four, "uncached": check_uncached, "frozen": check_frozen, "documented": check_documented,
-    "refused": check_refused, "hostile": check_hostile,
+    "guide": check_guide, "four": check_four, "uncached": check_uncached, "frozen": check_frozen, "targets": check_targets,
+    "documented": check_documented, "refused": check_refused, "hostile": check_hostile,
 }
 
 

@@ -147,17 +147,25 @@ def large_file():
 
 # Words that are no command.
 COMMAND_LINES = [
-    (), ("",), ("repro", ""), ("repro", "repro"), ("repro", "in"), ("x", "repro"), ("Repro",), ("repro ",), ("repro\n",),
-    ("-h",), ("--help",), ("--version",), ("repro", "-f"), ("repro", "--help"), ("--", "repro"), ("repr",), ("status",),
-    ("x" * 100_000,), ("repro", "x" * 100_000), ("repro",) * 10_000,
+    (), ("",), ("x", "repro"), ("Repro",), ("repro ",), ("repro\n",), ("-f", "repro"),
+    ("-h",), ("--help",), ("--version",), ("repro", "--help"), ("--", "repro"), ("repr",), ("status",),
+    ("repro", "-f", "-f"), ("repro", "-f", "--force"), ("repro", "-f", "copy", "-f"), ("repro", "-fx"), ("repro", "--force=1"), ("repro", "-x", "--"),
+    ("x" * 100_000,), ("repro", "-" + "x" * 100_000), ("repro",) * 10_000 + ("-x",),
     (b"\xff",), (b"repro\xff",), (b"repro", b"\xff"), (b"\xff", b"repro"), (b"repro", b"\xed\xa0\x80"),
+]
+# Targets that are none, behind those that are.
+TARGETS = [
+    ("",), ("in",), ("out",), ("repro",), ("dvc.yaml",), ("-",), ("copy", "Copy"), ("copy", "copy@"), ("-f", "copy "), ("copy", "--", "-f"), ("--", "copy", "--"), ("x" * 100_000,),
+    ("copy",) * 10_000 + ("none",), ("copy", "é\n'"),
 ]
 
 
 def command_lines():
-    """Each command line but `repro` has the status 254, and touches nothing."""
+    """Words that are no command have the status 254, and a target that is none 255; neither touches anything."""
     for number, words in enumerate(COMMAND_LINES):
         untouched(f"command line number {number}", DUE, (254, "", BAD_WORDS), words=words)
+    for number, words in enumerate(TARGETS):
+        untouched(f"targets number {number}", DUE, (255, "", f"ERROR: no stage or file '{words[-1]}'\n"), words=("repro", *words))
 
 
 def limited(kind, most):
