@@ -24,7 +24,7 @@ fault_is_none fault e = cc
 no_lock_folder : (t : Tree) (lock : Lock) → lock_of t ≡ Some lock → item_at t lock_path ≢ Some folder
 no_lock_folder t lock e f = none_is_some lock (sym (ap lock_by f) ∙ e)
 
-no_dvc_file : (t : Tree) → place_fault (item_at t dvc_path) ≡ None → IsNoFileAt t dvc_path
+pub no_dvc_file : (t : Tree) → place_fault (item_at t dvc_path) ≡ None → IsNoFileAt t dvc_path
 no_dvc_file t e bytes f = fault_is_none (NotFolder dvc_path) (sym (ap place_fault f) ∙ e)
 
 pub can_write : (t : Tree) (lock : Lock) → place_fault (item_at t dvc_path) ≡ None → lock_of t ≡ Some lock → CanWrite lock_path t

@@ -1,7 +1,5 @@
 pub mod Words
-pub mod Targets
 pub mod Sources
-pub mod Plan
 pub mod Vars
 pub mod Read
 pub mod Workspace

@@ -12,7 +12,7 @@ use Rattle.template_expand.specs.declared.files.VarFile.{VarFile}
 use Rattle.template_expand.specs.Wanted.{wanted}
 use Rattle.stage_schema.specs.declared.fault.ExpandFault.{ExpandFault}
 use Rattle.repro_laws.specs.Params.{params_answer, with_first}
-use Rattle.dvc_cli.specs.Plan.{schema_answer}
+use Rattle.stage_plan.specs.Plan.{schema_answer}
 
 abbrev pub var_of : Path → Result Node ParamsFault → Result VarFile Fault
 var_of at (Ok root) = Ok (record { file = at; node = Some root })

@@ -1,6 +1,6 @@
--- What the workspace says: its stages, and what is remembered of them. The stages are those that the targets choose.
---     plan_in targets t            the stages of a tree, or why it has none
---     stages_in targets t          its stages, where it has some
+-- What the workspace says: its stages and track files, and what is remembered. They are those that the targets choose.
+--     plan_in targets t            what targets choose of a tree, or why there is nothing to choose from
+--     chosen_of targets t          what they choose, where it isn't refused
 --     workspace_fault targets t    why a workspace can't be read: the first refusal in their order
 --     workspace_of targets t       the workspace of a tree, where nothing is refused
 use Rattle.std.specs.Prelude.{ℕ, List, ◌∷◌, ◌++◌, [], Option, Some, None, Result, Ok, Err}
@@ -18,51 +18,40 @@ use Rattle.repro_laws.specs.Refusals.{first_fault}
 use Rattle.repro_laws.specs.Sound.{lock_of}
 use Rattle.repro_laws.specs.declared.stage.Stage.{Stage}
 use Rattle.template_expand.specs.declared.files.VarFile.{VarFile}
+use Rattle.stage_graph.specs.declared.track.TrackFile.{TrackFile}
 use Rattle.repro_core.specs.Steps.{tracked_kinds}
-use Rattle.dvc_cli.specs.Plan.{plan_of}
+use Rattle.stage_plan.specs.Plan.{plan_of, schema_kinds, plan_kinds}
+use Rattle.stage_plan.specs.declared.plan.Chosen.{Chosen}
 use Rattle.dvc_cli.specs.Vars.{vars_of}
 use Rattle.dvc_cli.specs.Sources.{sources_of}
 use Rattle.dvc_cli.specs.Read.{root_at, book_at}
-use Rattle.dvc_cli.specs.declared.sources.Sources.{Sources}
+use Rattle.stage_plan.specs.declared.sources.Sources.{Sources}
 
--- ---- its stages
+-- ---- what is chosen
 
-abbrev pub plan_by_files : List (List ℕ) → Node → Result (List VarFile) Fault → Result Sources Fault → Result (List Stage) Fault
+abbrev pub plan_by_files : List (List ℕ) → Node → Result (List VarFile) Fault → Result Sources Fault → Result Chosen Fault
 plan_by_files targets root (Ok files) (Ok sources) = plan_of targets root files sources
 plan_by_files targets root (Ok files) (Err fault) = Err fault
 plan_by_files targets root (Err fault) sources = Err fault
 
-abbrev pub plan_by_root : List (List ℕ) → Tree → Result Node Fault → Result (List Stage) Fault
+abbrev pub plan_by_root : List (List ℕ) → Tree → Result Node Fault → Result Chosen Fault
 plan_by_root targets t (Ok root) = plan_by_files targets root (vars_of t root) (sources_of t)
 plan_by_root targets t (Err fault) = Err fault
 
-abbrev pub plan_in : List (List ℕ) → Tree → Result (List Stage) Fault
+abbrev pub plan_in : List (List ℕ) → Tree → Result Chosen Fault
 plan_in targets t = plan_by_root targets t (root_at (item_at t yaml_path))
 
-abbrev pub stages_in : List (List ℕ) → Tree → Option (List Stage)
-stages_in targets t = result_ok (plan_in targets t)
+abbrev pub chosen_of : List (List ℕ) → Tree → Option Chosen
+chosen_of targets t = result_ok (plan_in targets t)
 
 -- ---- what is refused of it
 
--- which faults may come of a text, of a file, of the graph, of the plan, and of the whole
+-- which faults may come of a text, of a file, of files of variables, and of the whole
 abbrev pub parse_kinds : List FaultKind
 parse_kinds = k.NoMemory ∷ k.Yaml ∷ k.Schema ∷ k.Unsupported ∷ k.Legacy ∷ []
 
 abbrev pub file_kinds : List FaultKind
 file_kinds = k.WorldFault ∷ k.NoFile ∷ k.TooLarge ∷ k.Changed ∷ parse_kinds
-
-abbrev pub graph_kinds : List FaultKind
-graph_kinds = k.NoMemory ∷ k.Outside ∷ k.Reserved ∷ k.Duplicate ∷ k.Overlap ∷ k.VarsFromOutput ∷ k.Cycle ∷ []
-
-abbrev pub schema_kinds : List FaultKind
-schema_kinds = k.NoVariable ∷ k.NotScalar ∷ k.NoFile ∷ k.NoKey ∷ k.TooLarge ∷ k.Schema ∷ k.Unsupported ∷ k.Outside ∷ k.NoMemory ∷ []
-
--- of targets
-abbrev pub target_kinds : List FaultKind
-target_kinds = k.NoMemory ∷ k.NoStage ∷ []
-
-abbrev pub plan_kinds : List FaultKind
-plan_kinds = schema_kinds ++ (graph_kinds ++ target_kinds)
 
 -- of files of variables
 abbrev pub vars_kinds : List FaultKind
@@ -94,14 +83,15 @@ workspace_fault targets t = first_fault (place_fault (item_at t dvc_path)) (rest
 
 -- ---- what it is about
 
--- its stages, and what is remembered of them
+-- the stages that have turns, the track files that are recorded before, and what is remembered
 pub record Workspace : Type 0 where
   pub stages : List Stage
+  pub tracks : List TrackFile
   pub lock : Lock
 
-abbrev pub workspace_by : Option Fault → Option (List Stage) → Option Lock → Option Workspace
-workspace_by None (Some stages) (Some lock) = Some (record { stages = stages; lock = lock })
+abbrev pub workspace_by : Option Fault → Option Chosen → Option Lock → Option Workspace
+workspace_by None (Some chosen) (Some lock) = Some (record { stages = chosen.stages; tracks = chosen.tracks; lock = lock })
 workspace_by _ _ _ = None
 
 abbrev pub workspace_of : List (List ℕ) → Tree → Option Workspace
-workspace_of targets t = workspace_by (workspace_fault targets t) (stages_in targets t) (lock_of t)
+workspace_of targets t = workspace_by (workspace_fault targets t) (chosen_of targets t) (lock_of t)

@@ -16,6 +16,7 @@ use dvc_base::{Fault, Text, Texts};
 use repro_core::repro;
 use repro_laws::Flags;
 use std::alloc::Global;
+use track_record::record_tracks;
 use world_api::{Sink, World};
 
 /// How a call of the program ended: its exit status, and the fault that it told, if there is one.
@@ -25,7 +26,7 @@ pub struct Done {
     pub fault: Option<Fault>,
 }
 
-/// Does what the words say: reads the workspace, takes the turns of its stages, and tells a fault on `err`.
+/// Does what the words say: reads the workspace, records its track files, takes the turns of its stages, and tells a fault on `err`.
 ///
 /// The words are those after the program's name. So far there is one command: `repro`, with `-f` or `--force`, and with targets.
 pub fn dvc<W: World, K: Sink>(
@@ -95,7 +96,7 @@ fn perform<W: World, K: Sink>(
     }
 }
 
-// Takes the turns of the stages that the targets choose.
+// Records the track files and takes the turns of the stages that the targets choose.
 fn reproduce<W: World, K: Sink>(
     alloc: Global,
     force: bool,
@@ -114,6 +115,7 @@ fn reproduce<W: World, K: Sink>(
     ensures out_cause { IsCaused (K.faults out.old) (K.faults out.new) (fault_in result ≡ Some OutFault) }
 {
     let mut workspace = read_workspace(alloc, world, targets)?;
+    record_tracks(alloc, world, workspace.tracks.as_slice())?;
     // No output comes back from the cache yet.
     let flags = Flags {
         force,

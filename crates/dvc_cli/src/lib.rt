@@ -2,16 +2,12 @@
 #![tactic(auto)]
 
 mod book;
-mod by_text;
 mod command;
 mod law;
 mod message;
-mod plan;
-mod planned;
 mod room;
 mod root;
 mod sources;
-mod targets;
 mod vars;
 mod words;
 mod workspace;

@@ -2,28 +2,19 @@
 ghost use Rattle.std.specs.Prelude.{◌≤◌, ◌<◌, ◌^◌, length, IsTrue, IfOk, IsErrOf};
 ghost use Rattle.dvc_base.specs.Answer.{fault_in};
 ghost use Rattle.dvc_base.specs.Fault.{MayBe, IsHonest};
-ghost use Rattle.dvc_base.specs.Limits.{limit_of};
 ghost use Rattle.dvc_base.specs.declared.fault.Fault.TheVariants.{WorldFault};
-ghost use Rattle.dvc_base.specs.declared.limits.What.TheVariants.{Paths};
 ghost use Rattle.world_api.specs.History.{IsCaused};
 ghost use Rattle.world_api.specs.Outside.{tree_of, IsUntouched};
+ghost use Rattle.std.specs.List.{AllByRecursion};
 ghost use Rattle.workspace_files.specs.Read.{IsRead};
-ghost use Rattle.dvc_cli.specs.Sources.{sources_in, sources_of, found_kinds, source_kinds};
+ghost use Rattle.workspace_files.specs.Walk.{IsFound};
+ghost use Rattle.dvc_cli.specs.Sources.{IsTrackFile, sources_in, sources_of, found_kinds, reading_kinds};
 
-use dvc_base::{Fault, Rels};
-use stage_graph::Tracks;
+use dvc_base::Fault;
+use stage_plan::Sources;
 use std::alloc::Global;
 use workspace_files::{Found, check_ignores, find, read_tracks};
 use world_api::ReadFiles;
-
-/// What there is beside the stages of a `dvc.yaml`.
-#[derive(Drop)]
-pub(crate) struct Sources {
-    /// The track files, in the order of their paths.
-    pub(crate) tracks: Tracks,
-    /// The `.dvcignore` files, none of which has a rule.
-    pub(crate) ignores: Rels,
-}
 
 /// Walks over the workspace, refuses rules of paths to be ignored, and then reads the track files, up to the first refusal.
 #[tactic(auto, unfolding(crate::specs::Sources::sources_of))]
@@ -31,8 +22,9 @@ pub(crate) fn read_sources<F: ReadFiles>(alloc: Global, files: &mut F) -> Result
     ensures read { IsTrue F.tells → IsRead result (sources_of (tree_of (F.history files.old))) }
     // Over any world.
     ensures few { IfOk result (λ sources. length sources.tracks < 2 ^ 32) }
+    ensures tracks { IfOk result (λ sources. AllByRecursion IsTrackFile sources.tracks) }
     ensures unchanged { IsUntouched F.tells (F.history files.old) (F.history files.new) }
-    ensures kinds { MayBe source_kinds (fault_in result) }
+    ensures kinds { MayBe reading_kinds (fault_in result) }
     ensures honest { IsHonest F.tells (fault_in result) }
     ensures cause { IsCaused (F.faults files.old) (F.faults files.new) (IsErrOf result WorldFault) }
 {
@@ -42,9 +34,10 @@ pub(crate) fn read_sources<F: ReadFiles>(alloc: Global, files: &mut F) -> Result
 
 // The same from the files that the walk has found.
 fn read_found<F: ReadFiles>(alloc: Global, files: &mut F, found: Found) -> Result<Sources, Fault>
-    requires few { length found.tracks ≤ limit_of Paths }
+    requires found { IsFound found }
     ensures read { IsTrue F.tells → IsRead result (sources_in (tree_of (F.history files.old)) found) }
     ensures few { IfOk result (λ sources. length sources.tracks < 2 ^ 32) }
+    ensures tracks { IfOk result (λ sources. AllByRecursion IsTrackFile sources.tracks) }
     ensures unchanged { IsUntouched F.tells (F.history files.old) (F.history files.new) }
     ensures kinds { MayBe found_kinds (fault_in result) }
     ensures honest { IsHonest F.tells (fault_in result) }

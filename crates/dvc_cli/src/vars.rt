@@ -12,10 +12,10 @@ ghost use Rattle.dvc_cli.specs.Vars.{var_of, var_at, vars_at, vars_of};
 ghost use Rattle.repro_core.specs.Steps.{tracked_kinds};
 ghost use Rattle.dvc_cli.specs.Workspace.{vars_kinds};
 
-use crate::plan::schema_answer;
 use dvc_base::{Fault, Node, Plain, Rel};
 use params::read_params;
 use repro_core::params_answer;
+use stage_plan::schema_answer;
 use std::alloc::Global;
 use template_expand::{VarFile, VarFiles, wanted_files};
 use world_api::{Kind, ReadFiles};

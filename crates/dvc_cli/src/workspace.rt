@@ -1,4 +1,4 @@
-// The workspace: its stages, and what is remembered of them.
+// The workspace: its stages and track files, and what is remembered.
 ghost use Rattle.std.specs.Prelude.{◌≡◌, IsTrue, IfOk, IsErrOf, Some, None, Ok};
 ghost use Rattle.dvc_base.specs.Answer.{fault_in, IsAnswer};
 ghost use Rattle.dvc_base.specs.Fault.{MayBe, IsHonest};
@@ -10,30 +10,33 @@ ghost use Rattle.world_api.specs.Outside.{tree_of, IsUntouched};
 ghost use Rattle.world_api.specs.Writes.{CanWrite};
 ghost use Rattle.lock_files.specs.Form.{IsBook};
 ghost use Rattle.repro_laws.specs.Sound.{lock_of};
-ghost use Rattle.dvc_cli.specs.Plan.{AreUsable};
-ghost use Rattle.dvc_cli.specs.Workspace.{stages_in, place_fault, plan_by_root, rest_fault, workspace_fault, read_kinds};
+ghost use Rattle.stage_plan.specs.Plan.{AreUsable};
+ghost use Rattle.track_record.specs.Records.{AreTracked, AreReady};
+ghost use Rattle.dvc_cli.specs.Workspace.{chosen_of, place_fault, plan_by_root, rest_fault, workspace_fault, read_kinds};
 
 use crate::book::read_book;
-use crate::plan::plan_of;
 use crate::root::read_root;
 use crate::sources::read_sources;
 use crate::vars::read_vars;
 use dvc_base::{Fault, Node, Text};
 use lock_files::LockBook;
 use repro_laws::Stages;
+use stage_graph::Tracks;
+use stage_plan::{Chosen, plan_of};
 use std::alloc::Global;
 use world_api::{Kind, ReadFiles, dvc_path};
 
-/// The stages of a workspace in their order, and what is remembered of them.
+/// The stages of a workspace in their order, its track files, and what is remembered.
 #[derive(Drop)]
 pub(crate) struct Workspace {
     pub(crate) stages: Stages,
+    pub(crate) tracks: Tracks,
     pub(crate) lock: LockBook,
 }
 
 /// Reads `dvc.yaml`, the files of variables that it names, the `.dvcignore` files and track files that stand in the workspace,
 /// and `dvc.lock`, in this order. The refusals of what `dvc.yaml` says come behind theirs, and a target that is none comes last.
-/// The stages are those that the targets choose.
+/// The stages and track files are those that the targets choose.
 // Its buffers are no part of the caller's frame, which stays during the turns.
 #[inline(never)]
 pub(crate) fn read_workspace<F: ReadFiles>(
@@ -43,8 +46,11 @@ pub(crate) fn read_workspace<F: ReadFiles>(
 ) -> Result<Workspace, Fault>
     ensures ready { IfOk result (λ workspace. AreUsable workspace.stages) }
     ensures form { IfOk result (λ workspace. IsBook workspace.lock) }
+    ensures tracked { IfOk result (λ workspace. AreTracked workspace.tracks) }
+    ensures standing { IsTrue F.tells → IfOk result (λ workspace.
+        AreReady workspace.tracks (tree_of (F.history files.old))) }
     ensures planned { IsTrue F.tells → IfOk result (λ workspace.
-        stages_in targets.now (tree_of (F.history files.old)) ≡ Some workspace.stages) }
+        chosen_of targets.now (tree_of (F.history files.old)) ≡ Some (record { stages = workspace.stages; tracks = workspace.tracks })) }
     ensures remembered { IsTrue F.tells → IfOk result (λ workspace.
         lock_of (tree_of (F.history files.old)) ≡ Some workspace.lock) }
     ensures place { IsTrue F.tells → IfOk result (λ workspace.
@@ -71,8 +77,12 @@ fn read_rest<F: ReadFiles>(
     requires place { IsTrue F.tells → place_fault (item_at (tree_of (F.history files.old)) dvc_path) ≡ None }
     ensures ready { IfOk result (λ workspace. AreUsable workspace.stages) }
     ensures form { IfOk result (λ workspace. IsBook workspace.lock) }
+    ensures tracked { IfOk result (λ workspace. AreTracked workspace.tracks) }
+    ensures standing { IsTrue F.tells → IfOk result (λ workspace.
+        AreReady workspace.tracks (tree_of (F.history files.old))) }
     ensures planned { IsTrue F.tells → IfOk result (λ workspace.
-        plan_by_root targets.now (tree_of (F.history files.old)) (Ok root.now) ≡ Ok workspace.stages) }
+        plan_by_root targets.now (tree_of (F.history files.old)) (Ok root.now)
+        ≡ Ok (record { stages = workspace.stages; tracks = workspace.tracks })) }
     ensures remembered { IsTrue F.tells → IfOk result (λ workspace.
         lock_of (tree_of (F.history files.old)) ≡ Some workspace.lock) }
     ensures place { IsTrue F.tells → IfOk result (λ workspace.
@@ -88,8 +98,21 @@ fn read_rest<F: ReadFiles>(
     let sources = read_sources(alloc, files)?;
     let lock = read_book(alloc, files)?;
     match plan_of(alloc, root, vars.as_slice(), &sources, targets) {
-        Ok(stages) => Ok(Workspace { stages, lock }),
+        Ok(chosen) => Ok(workspace_of(chosen, lock)),
         Err(fault) => Err(fault),
+    }
+}
+
+fn workspace_of(chosen: Chosen, lock: LockBook) -> Workspace
+    ensures stages { result.stages ≡ chosen.stages }
+    ensures tracks { result.tracks ≡ chosen.tracks }
+    ensures lock { result.lock ≡ lock }
+{
+    let Chosen { stages, tracks } = chosen;
+    Workspace {
+        stages,
+        tracks,
+        lock,
     }
 }
 

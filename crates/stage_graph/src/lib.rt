@@ -17,4 +17,5 @@ mod track;
 
 pub use cases::worked_cases;
 pub use graph::Graph;
+pub use path::{folder_of, path_from};
 pub use track::{TrackFile, Tracks};

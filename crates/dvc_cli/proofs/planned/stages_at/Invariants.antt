@@ -1,7 +1,0 @@
-use Rattle.std.proofs.Common.{◌≡◌, take, map}
-use Rattle.dvc_cli.specs.Plan.{stage_of, with_turns, stages_at}
-use Rattle.dvc_cli.proofs.planned.stages_at.Given as goal
-
--- the stages so far
-abbrev pub invariant-loop-number : goal.invariant-loop-number
-invariant-loop-number l = l.stages ≡ map (stage_of l.outs) (with_turns (stages_at l.written (take l.number-index l.order)))

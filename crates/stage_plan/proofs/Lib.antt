@@ -1,0 +1,13 @@
+pub mod PlannedLemmas
+pub mod TargetLemmas
+pub mod DistinctLemmas
+pub mod PairLemmas
+pub mod SchemaLemmas
+pub mod KindLemmas
+pub mod ClearLemmas
+pub mod TurnLemmas
+pub mod PlacedLemmas
+pub mod UsableLemmas
+pub mod PlanLemmas
+pub mod TrackLemmas
+pub mod TrackedLemmas

@@ -1,0 +1,6 @@
+use Rattle.std.proofs.Common.{◌≡◌, map, take}
+use Rattle.stage_plan.proofs.by_text.copied_outs.Given as goal
+
+-- those so far
+abbrev pub invariant-loop-out : goal.invariant-loop-out
+invariant-loop-out l = l.copies ≡ map (λ x. x.now) (take l.out-index l.outs)
