@@ -1,10 +1,12 @@
 #!/usr/bin/env python3
-"""Has the program read the longest `dvc.lock` and `dvc.yaml` that it takes, and longer ones.
+"""Has the program read the longest `dvc.lock` and `dvc.yaml` that it takes, and longer ones, and walk over a large workspace.
 
 A text of 64 MiB is read or refused in seconds, whatever it holds; of one byte more the limit is told, and so it is at once of a
-file of a terabyte. Then the time and the memory are told that a lock of 60,000 stages takes. `.ci/run` runs this after the gate; DVC
+file of a terabyte. Then the time and the memory are told that a lock of 60,000 stages takes, and the time of a workspace of 200,000 files
+with 1,000 track files. `.ci/run` runs this after the gate; DVC
 names another program than the one of this clone, and words name single checks (CHECKS, at the end).
 """
+import hashlib
 import os
 import sys
 import tempfile
@@ -133,7 +135,35 @@ def sixty_thousand():
         expect("the lock of 60,000 stages and one", read(folder, "dvc.lock").decode(), text + COPIED)
 
 
-CHECKS = [longest, terabyte, hostile, sixty_thousand]
+def track(content, name):
+    """The text of a track file of one file."""
+    return f"outs:\n- md5: {hashlib.md5(content).hexdigest()}\n  size: {len(content)}\n  hash: md5\n  path: {name}\n".encode()
+
+
+def large_workspace():
+    """1,000 track files among 200,000 files: each is recorded, or the first that can't be is told."""
+    tree = {f"d{number % 200}/f{number}": b"" for number in range(198_000)}
+    for number in range(1_000):
+        tree[f"d{number % 200}/data{number}"] = f"new {number}".encode()
+        tree[f"d{number % 200}/data{number}.dvc"] = track(b"old", f"data{number}")
+    with tempfile.TemporaryDirectory() as folder:
+        plant(folder, tree)
+        for what in ("that are recorded", "with nothing to record"):
+            started = time.monotonic()
+            expect(f"1,000 track files {what}", repro(folder), (0, "", ""))
+            taken = time.monotonic() - started
+            print(f"big files: 1,000 track files among 200,000 files, {what}: {taken:.1f} s", flush=True)
+            expect(f"whether track files {what} take less than {MOST} seconds: {taken:.1f}", taken < MOST, True)
+        for number in (0, 1, 517, 999):
+            expect(f"track file {number}", read(folder, f"d{number % 200}/data{number}.dvc"), track(f"new {number}".encode(), f"data{number}"))
+        write(folder, "d0/data200.dvc", track(b"old", "../d7/f7/none"))
+        write(folder, "d0/data400.dvc", b"outs: [")
+        expect("an ill-formed one", repro(folder), (255, "", "ERROR: 'd0/data400.dvc' line 1: syntax\n"))
+        os.remove(os.path.join(folder, "d0/data400.dvc"))
+        expect("one of nothing", repro(folder), (255, "", "ERROR: missing data 'd7/f7/none'\n"))
+
+
+CHECKS = [longest, terabyte, hostile, sixty_thousand, large_workspace]
 
 
 def main():

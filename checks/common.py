@@ -198,7 +198,7 @@ class Link:
 
 
 def plant(folder, tree):
-    """Puts a tree in a folder: by each path the bytes of a file, None for a folder, or a Link."""
+    """Puts a tree in a folder: by each path the bytes of a file, None for a folder, or a Link. Folders above a file may be left out."""
     for path in sorted(tree):
         content, place = tree[path], os.path.join(folder, path)
         if content is None:
@@ -206,6 +206,7 @@ def plant(folder, tree):
         elif isinstance(content, Link):
             os.symlink(content.target, place)
         else:
+            os.makedirs(os.path.dirname(place), exist_ok=True)
             write(folder, path, content)
 
 

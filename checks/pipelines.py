@@ -1,5 +1,5 @@
 #!/usr/bin/env python3
-"""Tries parameters, templates, frozen stages, options of outputs and targets over real files.
+"""Tries parameters, templates, frozen stages, options of outputs, targets and track files over real files.
 
 The examples of docs/GUIDE.md, which have to stand there letter by letter; pipelines as DVC's documentation describes them, written
 anew: tracked parameters, `${model.lr}`, `foreach` over a list and a mapping, a `matrix` of two by two, `vars` from a file with chosen
@@ -7,6 +7,8 @@ keys; each refusal with its words, in its order; and hostile texts, which have t
 length. `.ci/run` runs this after the gate; DVC names another program than the one of this clone, and words name single checks (CHECKS, at
 the end). The first failure ends the script.
 """
+import hashlib
+import json
 import os
 import sys
 import tempfile
@@ -293,6 +295,80 @@ def check_targets(room):
     expect("a target that is none", project.told("down", "x.txt"), ("", "no stage or file 'x.txt'"))
 
 
+# ---- track files
+
+def track(*outs, rest=""):
+    """The text of a track file of such outs, each a path with its MD5, its size, and for a folder its number of files."""
+    lines = [f"- md5: {digest}\n  size: {size}\n" + (f"  nfiles: {files}\n" if files else "") + f"  hash: md5\n  path: {path}\n" for path, digest, size, files in outs]
+    return "outs:\n" + "".join(lines) + rest
+
+
+def digest(content):
+    """The MD5 of bytes."""
+    return hashlib.md5(content).hexdigest()
+
+
+def check_tracks(room):
+    """Track files are recorded before the turns: what they track goes into the cache, and a file is written anew where an entry differs."""
+    rest = "desc: where it comes from\nmeta:\n  size: 1\n"
+    old = track(("data.csv", digest(b"old"), 3, 0), rest=rest)
+    project = Project(room, {"dvc.yaml": b"stages: {sum: {cmd: cat raw/data.csv set/a set/b/c > out, deps: [raw/data.csv, set], outs: [out]}}",
+                             "raw/data.csv": b"new", "raw/data.csv.dvc": old.encode(), "set/a": b"1", "set/b/c": b"22", "other.dvc": track(("other", digest(b""), 0, 0)).encode()})
+    listing = json.dumps([{"md5": digest(b"1"), "relpath": "a"}, {"md5": digest(b"22"), "relpath": "b/c"}]).encode()
+    project.put(**{"set.dvc": track(("set", digest(b"1") + ".dir", 9, 9))})
+    expect("a source that is missing", project.told(), ("", "missing data 'other'"))
+    expect("which comes first by its path", project.read("raw/data.csv.dvc"), old)
+    ran = runs("sum", "cat raw/data.csv set/a set/b/c > out")
+    expect("with a target it isn't looked at", project.told("sum")[:len(ran)], ran)
+    expect("a file that is recorded keeps its other pairs", project.read("raw/data.csv.dvc"), track(("data.csv", digest(b"new"), 3, 0), rest=rest))
+    expect("a folder", project.read("set.dvc"), track(("set", digest(listing) + ".dir", 3, 2)))
+    expect("its listing is in the cache", project.read(f".dvc/cache/files/md5/{digest(listing)[:2]}/{digest(listing)[2:]}.dir"), listing.decode())
+    expect("and its files", project.read(f".dvc/cache/files/md5/{digest(b'22')[:2]}/{digest(b'22')[2:]}"), "22")
+    expect("what nothing has changed stays", project.told("sum"), skips("sum"))
+    project.put(**{"other": "there"})
+    expect("a track file as a target", project.told("other.dvc"), "")
+    expect("it is recorded", project.read("other.dvc"), track(("other", digest(b"there"), 5, 0)))
+    project.put(**{"raw/data.csv": "newer"})
+    expect("all", project.told()[:len(ran)], ran)
+    expect("are recorded", project.read("raw/data.csv.dvc"), track(("data.csv", digest(b"newer"), 5, 0), rest=rest))
+
+
+# ---- graphs that are refused
+
+TRACK = track(("a", "900150983cd24fb0d6963f7d28e17f72", 3, 0))
+NO_GRAPH = {
+    "a stage that reads the folder of its own output": ("stages: {a: {cmd: x, deps: [d], outs: [d/o]}}", {}, "cycle: a <- a"),
+    "outputs that begin alike": ("stages: {a: {cmd: 'mkdir d; echo > d/ab', outs: [d/ab], frozen: true}, b: {cmd: x, outs: [d/a], frozen: true}}", {}, ""),
+    "an output in another": ("stages: {a: {cmd: x, outs: [d/a]}, b: {cmd: x, outs: [d/a/b]}}", {}, "outputs 'd/a' and 'd/a/b' overlap"),
+    "an output twice": ("stages: {a: {cmd: x, outs: [d/../o]}, b: {cmd: x, outs: [o]}}", {}, "'o' is an output of 'a' and 'b'"),
+    "the first later output that overlaps, with the first one that it overlaps": (
+        "stages: {a: {cmd: x, outs: [p/q, p/r]}, b: {cmd: x, outs: [p]}, c: {cmd: x, outs: [p/q/s]}}", {}, "outputs 'p/q' and 'p' overlap"),
+    "a path that leads out": ("stages: {a: {cmd: x, outs: [d/../../o]}}", {}, "'d/../../o' is not a path of the workspace"),
+    "a path from the root": ("stages: {a: {cmd: x, deps: [/o]}}", {}, "'/o' is not a path of the workspace"),
+    "a path of another host": ("stages: {a: {cmd: x, deps: ['s3://o']}}", {}, "'dvc.yaml': 'stages.a.deps' is not supported"),
+    "a path that is tracked out of the project": ("", {"d.dvc": track(("../a", "900150983cd24fb0d6963f7d28e17f72", 3, 0))}, "'../a' is not a path of the workspace"),
+    "a track file inside an output": ("stages: {a: {cmd: x, outs: [d]}}", {"d/a.dvc": TRACK}, "'d' overlaps 'd/a.dvc'"),
+    "what is tracked inside an output": ("stages: {a: {cmd: x, outs: [d]}}", {"a.dvc": track(("d/a", "900150983cd24fb0d6963f7d28e17f72", 3, 0))}, "outputs 'd/a' and 'd' overlap"),
+    "track files of the tool's own folders are none": ("", {".dvc/a.dvc": "[", ".git/a.dvc": "[", ".hg/d/a.dvc": "["}, ""),
+    "a rule": ("", {"d/e/.dvcignore": "# none\n\n  \nx*\n"}, "'d/e/.dvcignore' has rules"),
+}
+
+
+def check_graphs(room):
+    """Graphs that have no order, each refused with its words; cycles of every length."""
+    for what, (text, files, wanted) in NO_GRAPH.items():
+        project = Project(room, {"dvc.yaml": text.encode()} | {name: content.encode() for name, content in files.items()})
+        expect(what, project.told(), ("", wanted) if wanted else "")
+    for length in range(1, 51):
+        ring = "".join(f"  s{at}: {{cmd: x, deps: [o{(at + 1) % length}], outs: [o{at}]}}\n" for at in range(length))
+        project = Project(room, {"dvc.yaml": f"stages:\n  before: {{cmd: x, outs: [b]}}\n{ring}  behind: {{cmd: x, deps: [o0], outs: [c]}}\n".encode()})
+        walk = " <- ".join([*(f"s{at}" for at in range(length)), "s0"])
+        expect(f"a cycle of {length} stages", project.told(), ("", f"cycle: {walk}"))
+    project = Project(room, {"dvc.yaml": b"stages: {a: {cmd: x}}"})
+    for target in ("../a", "/a", "", "a/../../b", "a.dvc"):
+        expect(f"the target {target!r}", project.told(target), ("", f"no stage or file '{target}'"))
+
+
 # ---- pipelines as they are documented
 
 DOCUMENTED = {
@@ -410,7 +486,7 @@ def check_hostile(room):
 
 
 CHECKS = {
-    "guide": check_guide, "four": check_four, "uncached": check_uncached, "frozen": check_frozen, "targets": check_targets,
+    "guide": check_guide, "four": check_four, "uncached": check_uncached, "frozen": check_frozen, "targets": check_targets, "tracks": check_tracks, "graphs": check_graphs,
     "documented": check_documented, "refused": check_refused, "hostile": check_hostile,
 }
 

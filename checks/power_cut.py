@@ -69,6 +69,11 @@ def spread(values):
     return tree
 
 
+def track(path, value):
+    """The text of a track file of one path that stands beside it."""
+    return f"outs:\n- md5: {name_of(value)}\n  size: {len(value)}\n  hash: md5\n  path: {path}\n".encode()
+
+
 def copy(name, source, target):
     """A stage that copies a file."""
     return Stage(name, f"cp {source} {target}", (source,), {target: lambda files: files[source]})
@@ -88,12 +93,15 @@ class Project:
     removed: dict = field(default_factory=dict)
     # How many of the disks that a cut leaves are gone on with, evenly spread; none: all.
     most: int | None = None
+    # Track files, each with the input that it tracks as it was before.
+    tracks: dict = field(default_factory=dict)
 
     def __post_init__(self):
         self.outs = {out for one in self.plan for out in one.makes}
         yaml = stages(*(stage(one.name, one.command, one.deps, one.makes) for one in self.plan))
         old_values, old_book = self.after(len(self.plan), self.before, {}) if self.before else ({}, {})
-        start = {**spread(old_values), **self.inputs, "dvc.yaml": yaml.encode()}
+        self.texts = {file: (track(path, self.before.get(path, b"old")), track(path, self.inputs[path])) for file, path in self.tracks.items()}
+        start = {**spread(old_values), **self.inputs, "dvc.yaml": yaml.encode()} | {file: old for file, (old, _) in self.texts.items()}
         if old_book:
             start |= {LOCK: lock(old_book.values()).encode(), ".dvc": None, ".dvc/tmp": None} | self.cached(old_values)
         start = {path: content for path, content in {**start, **self.more}.items() if path not in self.removed}
@@ -103,7 +111,7 @@ class Project:
         self.locks = [lock(book.values()).encode() for _, book in turns if book] + [self.start.get(LOCK)]
         values, book = turns[-1]
         made = {out: values[out] for out in self.outs}
-        self.wanted = {**spread(made), **self.cached(values), LOCK: lock(book.values()).encode()}
+        self.wanted = {**spread(made), **self.cached(values), LOCK: lock(book.values()).encode()} | {file: new for file, (_, new) in self.texts.items()}
         # What is cleared before something is put there.
         self.cleared = self.outs | {path for path in self.wanted if is_in(OBJECTS, path)}
 
@@ -115,8 +123,11 @@ class Project:
         return found
 
     def cached(self, values):
-        """The objects of all outputs, and the folders that they lie in."""
-        return with_folders(self.put(len(self.plan), values))
+        """The objects of all outputs and of what is tracked, and the folders that they lie in."""
+        found = self.put(len(self.plan), values)
+        for path in self.tracks.values():
+            found |= objects(values[path])
+        return with_folders(found)
 
     def after(self, count, inputs, book):
         """The values and the lock's entries after the turns of so many stages."""
@@ -132,12 +143,15 @@ class Project:
 
     def is_own(self, path):
         """Whether the tool or a command may change the path."""
-        return path in (LOCK, ".dvc") or is_in(LANES, path) or is_in(CACHE, path) or path.split("/")[0] in self.outs
+        return path in (LOCK, ".dvc", *self.tracks) or is_in(LANES, path) or is_in(CACHE, path) or path.split("/")[0] in self.outs
 
     def spoilt(self, tree):
         """What is wrong with a tree that a power cut left, or none."""
         if tree.get(LOCK) not in self.locks:
             return "the lock is neither old, nor new and whole"
+        for file, texts in self.texts.items():
+            if tree.get(file) not in texts:
+                return f"{file} is neither old, nor new and whole"
         for path in {*tree, *self.start}:
             if not self.is_own(path) and tree.get(path, "nothing") != self.start.get(path, "nothing"):
                 return f"{path} isn't as it was"
@@ -152,6 +166,9 @@ class Project:
             is_object = is_in(CACHE, path) and isinstance(content, bytes)
             if is_object and content != self.start.get(path) and not is_whole(path, content):
                 return "an object is neither old nor whole"
+        for file, path in self.tracks.items():
+            if tree.get(file) != self.start[file] and not objects(self.inputs[path]).items() <= whole.items():
+                return f"{file} is new, and not all that it names is in the cache"
         if tree.get(LOCK) != self.start.get(LOCK) and not self.held[tree[LOCK]].items() <= whole.items():
             return "the lock is new, and not all that it names is in the cache"
         return None
@@ -170,6 +187,8 @@ PROJECTS = [
     Project("the first repro", ONE, {}, NEW),
     Project("an edit", ONE, OLD, NEW),
     Project("nothing to do", ONE, OLD, OLD),
+    Project("an edit of what is tracked", ONE, OLD, NEW, tracks={"in.dvc": "in"}),
+    Project("two track files, and one of them with nothing to record", ONE, {}, {**NEW, "data": b"old"}, tracks={"data.dvc": "data", "in.dvc": "in"}),
     Project("an output in place, and no lock", ONE, {}, NEW, {"out": b"by hand"}),
     Project("an output changed by hand", ONE, OLD, OLD, {"out": b"by hand"}),
     Project("three stages", [FIRST, MIDDLE, LAST], OLD, NEW),
@@ -340,7 +359,9 @@ def site(project, changes, place):
 
 
 def named(path):
-    """A path as the kinds of syncs name it: what lies in the cache has no name of its own."""
+    """A path as the kinds of syncs name it: what lies in the cache, and a track file, have no name of their own."""
+    if path.endswith(".dvc") and path != ".dvc":
+        return "a track file"
     return "what is cached" if path != CACHE and is_in(CACHE, path) else path
 
 
@@ -348,7 +369,7 @@ SITES = [
     "the lane", "the folder of dvc.lock, once it is published", "the folder of .dvc, once it is made",
     "the folder of .dvc/tmp, once it is made", "the folder of an output, once it is cleared",
     "the folder of what is cached, once it is published", "the folder of what is cached, once it is made",
-    "the folder of what is cached, once it is removed",
+    "the folder of what is cached, once it is removed", "the folder of a track file, once it is published",
 ]
 
 

@@ -2,8 +2,8 @@
 """Tries random graphs of stages over real files against a small plain model of what a `repro` has to do.
 
 A graph has stages in any written order, folders as dependencies and outputs, a file of a folder that another stage makes, a `foreach`
-group, frozen stages and stages that are always changed. Between commands sources, outputs and stages are edited. Each command has a random
-choice of targets and of `-f`; its lines, its answer, each file and `dvc.lock` have to be those of the model, which is told below in a few
+group, frozen stages and stages that are always changed; some sources have track files. Between commands sources, outputs and stages are edited. Each command has a random
+choice of targets and of `-f`; its lines, its answer, each file, each track file and `dvc.lock` have to be those of the model, which is told below in a few
 functions and knows neither names nor places of objects. `.ci/run` runs this after the gate; words give the seed and the number of graphs.
 The first failure ends the script, and tells its graph.
 """
@@ -15,7 +15,7 @@ import sys
 import tempfile
 from dataclasses import dataclass, field
 
-from common import DVC, ROOM, entry, expect, lock, need_built, plant, read, repro, runs, skips, write
+from common import DVC, ROOM, entry, expect, lock, name_of, need_built, plant, read, repro, runs, skips, write
 
 GRAPHS, STEPS = 60, 8
 SOURCES = ("s0", "s1", "s2")
@@ -46,12 +46,21 @@ def is_folder(path):
     return path.startswith("d") and "/" not in path
 
 
+def track(path, value):
+    """The text of a track file that has recorded a value."""
+    size = sum(map(len, value.values())) if isinstance(value, dict) else len(value)
+    files = f"  nfiles: {len(value)}\n" if isinstance(value, dict) else ""
+    return f"outs:\n- md5: {name_of(value)}\n  size: {size}\n{files}  hash: md5\n  path: {path}\n".encode()
+
+
 @dataclass
 class Model:
-    """The workspace: stages in the order in which they are written, values by their paths, and what is remembered."""
+    """The workspace: stages in the order in which they are written, values by their paths, what is remembered, and what the track files
+    of some sources have recorded."""
     stages: list
     values: dict = field(default_factory=dict)
     remembered: dict = field(default_factory=dict)
+    tracked: dict = field(default_factory=dict)
 
     def value(self, path):
         """What stands at a path, or nothing; a file of a folder is looked for in it."""
@@ -79,6 +88,11 @@ class Model:
             wanted += [other for other in self.above(stage) if other not in wanted]
         return [s for s in self.order() if s in wanted]
 
+    def sources(self, targets):
+        """The sources whose track files are recorded: those that targets name, and those that a chosen stage reads; all without a target."""
+        read = {dep.partition("/")[0] for stage in self.chosen(targets) for dep in stage.deps}
+        return sorted(path for path in self.tracked if not targets or f"{path}.dvc" in targets or path in read)
+
     def made(self, stage):
         """The value that a stage's command makes of what stands at its dependencies."""
         def content(dep):
@@ -95,10 +109,14 @@ class Model:
 
     def repro(self, force, targets):
         """The answer: the status, the lines, and the line of a fault."""
-        names = {s.name for s in self.stages} | {s.group for s in self.stages if s.group}
+        names = {s.name for s in self.stages} | {s.group for s in self.stages if s.group} | {f"{path}.dvc" for path in self.tracked}
         for target in targets:
             if target not in names:
                 return 255, "", f"ERROR: no stage or file '{target}'\n"
+        for path in self.sources(targets):
+            if self.value(path) is None:
+                return 255, "", f"ERROR: missing data '{path}'\n"
+            self.tracked[path] = self.value(path)
         lines = ""
         for stage in self.chosen(targets):
             if stage.frozen:
@@ -161,12 +179,13 @@ def random_model(chance):
     chance.shuffle(written)
     values = {name: f"{name} {chance.random()}\n".encode() for name in SOURCES}
     values["d"] = {"a": b"in a folder\n", "b": b"and another\n"}
-    return Model([s for part in written for s in part], values)
+    tracked = {path: b"never there\n" for path in values if chance.random() < 0.4}
+    return Model([s for part in written for s in part], values, tracked=tracked)
 
 
 def edit(chance, model):
     """One edit of a source, of an output or of a stage."""
-    kind, stage = chance.randrange(6), chance.choice(model.stages)
+    kind, stage = chance.randrange(7), chance.choice(model.stages)
     same = [s for s in model.stages if s.group and s.group == stage.group] or [stage]
     if kind == 0:
         model.values[chance.choice(SOURCES)] = f"edited {chance.random()}\n".encode()
@@ -179,14 +198,18 @@ def edit(chance, model):
     elif kind == 4:
         for one in same:
             one.frozen = not one.frozen
-    else:
+    elif kind == 5:
         for one in same:
             one.version += 1
+    else:
+        model.values.pop(chance.choice(SOURCES), None)
 
 
 def put_all(folder, model):
     """The workspace is as the model has it."""
     write(folder, "dvc.yaml", model.yaml().encode())
+    for path, value in model.tracked.items():
+        write(folder, f"{path}.dvc", track(path, value))
     for path in {*SOURCES, "d", *(s.out for s in model.stages)}:
         at, value = os.path.join(folder, path), model.values.get(path)
         if os.path.isdir(at):
@@ -207,7 +230,7 @@ def found(folder, path):
 
 def random_words(chance, model):
     """Whether a command is forced, and its targets."""
-    names = [s.name for s in model.stages] + [s.group for s in model.stages if s.group] + (["nope"] if chance.random() < 0.1 else [])
+    names = [s.name for s in model.stages] + [s.group for s in model.stages if s.group] + [f"{path}.dvc" for path in model.tracked] + (["nope"] if chance.random() < 0.1 else [])
     return chance.random() < 0.2, chance.sample(names, min(len(names), chance.choice((0, 0, 1, 1, 2))))
 
 
@@ -222,6 +245,8 @@ def check_graph(chance, number):
             what = f"graph {number}, step {step}, {' '.join(words)}, of\n{model.yaml()}"
             expect(what, repro(folder, words), model.repro(force, targets))
             expect(f"dvc.lock, {what}", read(folder, "dvc.lock"), model.lock())
+            for path, value in model.tracked.items():
+                expect(f"{path}.dvc, {what}", read(folder, f"{path}.dvc"), track(path, value))
             for stage in model.stages:
                 expect(f"{stage.out}, {what}", found(folder, stage.out), model.values.get(stage.out))
             edit(chance, model)
