@@ -1,7 +1,7 @@
 #!/usr/bin/env python3
 """Tries parameters, templates, frozen stages, options of outputs, targets and track files over real files.
 
-The examples of docs/GUIDE.md, which have to stand there letter by letter; pipelines as DVC's documentation describes them, written
+The examples of docs/GUIDE.md, which have to stand there letter by letter; graphs that are refused; pipelines as DVC's documentation describes them, written
 anew: tracked parameters, `${model.lr}`, `foreach` over a list and a mapping, a `matrix` of two by two, `vars` from a file with chosen
 keys; each refusal with its words, in its order; and hostile texts, which have to be read or refused within a time that grows with their
 length. `.ci/run` runs this after the gate; DVC names another program than the one of this clone, and words name single checks (CHECKS, at
@@ -102,12 +102,16 @@ stages:
 """
 
 
+def guide():
+    """The text of the guide."""
+    with open(os.path.join(TOP, "docs", "GUIDE.md"), encoding="utf-8") as file:
+        return file.read()
+
+
 def check_guide(room):
     """The guide's examples do what it says."""
-    with open(os.path.join(TOP, "docs", "GUIDE.md"), encoding="utf-8") as file:
-        guide = file.read()
     for example in (PARAMETERS, TEMPLATES):
-        expect("an example stands in the guide", f"```\n{example}```\n" in guide, True)
+        expect("an example stands in the guide", f"```\n{example}```\n" in guide(), True)
     train = "echo trained; echo 1 > score.json\n"
     project = Project(room, {
         "dvc.yaml": PARAMETERS.encode(), "train.sh": train.encode(), "data": b"abc", "conf": None,
@@ -308,8 +312,16 @@ def digest(content):
     return hashlib.md5(content).hexdigest()
 
 
+COUNTS = b"day,count\n1,12\n2,15\n"
+DESCRIBED = "desc: how often it was, day by day\n"
+
+
 def check_tracks(room):
     """Track files are recorded before the turns: what they track goes into the cache, and a file is written anew where an entry differs."""
+    told = track(("data.csv", digest(COUNTS), len(COUNTS), 0), rest=DESCRIBED)
+    expect("whether the guide has the track file", f"```\n{told}```\n" in guide(), True)
+    example = Project(room, {"data.csv": COUNTS, "data.csv.dvc": track(("data.csv", digest(b""), 0, 0), rest=DESCRIBED).encode()})
+    expect("the guide's track file", (example.told(), example.read("data.csv.dvc")), ("", told))
     rest = "desc: where it comes from\nmeta:\n  size: 1\n"
     old = track(("data.csv", digest(b"old"), 3, 0), rest=rest)
     project = Project(room, {"dvc.yaml": b"stages: {sum: {cmd: cat raw/data.csv set/a set/b/c > out, deps: [raw/data.csv, set], outs: [out]}}",
