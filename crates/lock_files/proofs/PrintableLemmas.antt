@@ -1,5 +1,5 @@
 -- What is in form can be printed.
---     entry_printable, track_printable, book_printable
+--     entry_printable, key_printable, track_printable, book_printable
 use Rattle.std.proofs.Common.{◌≡◌, ℕ, ◌+◌, ◌-◌, ◌*◌, ◌<◌, ◌≤◌, ◌^◌, Bool, true, false, not, cond, ◌&&◌, ◌||◌, List, [], ◌∷◌, ◌++◌, length, map, Option, Some, None, Ok, codes, refl, sym, ap, ◌∙◌, subst, bytes_eq, ◌==◌, arith, inl, inr, nat_lt, nat_le, drop, rules}
 use Rattle.std.specs.Prelude.{pos, is_some, IsTrue}
 use Rattle.std.specs.List.{list_all, fold}
@@ -219,6 +219,37 @@ entry_sound e h =
 
 pub entry_printable : (e : Entry) → IsEntry e → IsPrintable (nodes.entry_node e)
 entry_printable e h = sound_within 62 64 (nodes.entry_node e) (omega arith) (entry_sound e h)
+
+-- ---- what outputs were made of
+
+key_keys : (cs : List (List ℕ)) (ds : List PathEntry) (ps : List ParamFile) (os : List (List ℕ))
+    → are_new [] (nodes.commands_pair cs ∷ nodes.paths_part (codes "deps") ds ++ nodes.params_part ps ++ nodes.texts_part (codes "outs") os) ≡ true
+key_keys cs [] [] [] = refl
+key_keys cs [] [] (o ∷ os) = refl
+key_keys cs [] (p ∷ ps) [] = refl
+key_keys cs [] (p ∷ ps) (o ∷ os) = refl
+key_keys cs (d ∷ ds) [] [] = refl
+key_keys cs (d ∷ ds) [] (o ∷ os) = refl
+key_keys cs (d ∷ ds) (p ∷ ps) [] = refl
+key_keys cs (d ∷ ds) (p ∷ ps) (o ∷ os) = refl
+
+texts_part_sound : (key : List ℕ) (ts : List (List ℕ)) → Each (SoundAt 61) (nodes.texts_part key ts)
+texts_part_sound key [] = tt
+texts_part_sound key (t ∷ ts) = (sound_items 61 (map nodes.text_node (t ∷ ts)) (omega arith) (texts_sound 60 (t ∷ ts)), tt)
+
+key_sound : (e : Entry) → IsEntry e → IsSound 62 (nodes.key_node e)
+key_sound e h =
+    let outs = map nodes.path_of e.outs in
+    let params = params_sound e.params h.files h.keys in
+    let deps = paths_sound (codes "deps") e.deps h.deps in
+    sound_pairs 62 (nodes.key_pairs e) (omega arith) (key_keys e.commands e.deps e.params outs) (
+      commands_sound e.commands,
+      each_joined (SoundAt 61) (nodes.paths_part (codes "deps") e.deps ++ nodes.params_part e.params) (nodes.texts_part (codes "outs") outs)
+          (each_joined (SoundAt 61) (nodes.paths_part (codes "deps") e.deps) (nodes.params_part e.params) deps params) (texts_part_sound (codes "outs") outs),
+    )
+
+pub key_printable : (e : Entry) → IsEntry e → IsPrintable (nodes.key_node e)
+key_printable e h = sound_within 62 64 (nodes.key_node e) (omega arith) (key_sound e h)
 
 -- ---- track files and locks
 

@@ -1,5 +1,6 @@
 -- The node of a value, whose text is what is printed of it.
 --     entry_node e     `cmd`, `deps`, `params`, `outs`, each left out where it is empty
+--     key_node e       the same with the paths of `outs` alone: what the outputs were made of
 --     track_node t     `outs`, and the other pairs in their order
 --     lock_node book   `schema` and `stages`, these in the book's order
 use Rattle.std.specs.Prelude.{ℕ, pos, List, [], ◌∷◌, ◌++◌, map, Option, Some, None, codes}
@@ -98,6 +99,24 @@ entry_pairs e =
 
 abbrev pub entry_node : Entry → Node
 entry_node e = nd.Pairs (entry_pairs e)
+
+-- ---- what outputs were made of
+
+-- a list of texts under its key; nothing of an empty one
+abbrev pub texts_part : List ℕ → List (List ℕ) → List Pair
+texts_part key [] = []
+texts_part key (t ∷ ts) = pair key (texts_node (t ∷ ts)) ∷ []
+
+abbrev pub path_of : PathEntry → List ℕ
+path_of e = e.path
+
+abbrev pub key_pairs : Entry → List Pair
+key_pairs e =
+    commands_pair e.commands
+    ∷ paths_part (codes "deps") e.deps ++ params_part e.params ++ texts_part (codes "outs") (map path_of e.outs)
+
+abbrev pub key_node : Entry → Node
+key_node e = nd.Pairs (key_pairs e)
 
 -- ---- track files
 

@@ -21,5 +21,5 @@ pub use book::LockBook;
 pub use cases::worked_cases;
 pub use entry::{Entry, PathEntries, PathEntry, Track};
 pub use fault::LockFault;
-pub use print::{print_entry, print_lock, print_track};
+pub use print::{print_entry, print_key, print_lock, print_track};
 pub use read::{read_entry, read_lock, read_track};

@@ -4,7 +4,7 @@ ghost use Rattle.dvc_base.specs.Name.{name_text};
 ghost use Rattle.lock_files.specs.Nodes as spec;
 
 use crate::{Entry, LockBook, PathEntry, Track};
-use dvc_base::{Name, NoMemory, Node, Nodes, Pair, PairList, ParamFile, Plain, Text};
+use dvc_base::{Name, NoMemory, Node, Nodes, Pair, PairList, ParamFile, Plain, Text, Texts};
 use std::alloc::Global;
 
 // ---- pairs
@@ -234,6 +234,64 @@ pub fn entry_node(alloc: Global, entry: &Entry) -> Result<Node, NoMemory>
 {
     let mut pairs = PairList::new(alloc);
     add_entry_parts(alloc, &mut pairs, entry)?;
+    Ok(Node::Pairs(pairs))
+}
+
+// ---- what outputs were made of
+
+fn paths_of(alloc: Global, entries: &[PathEntry]) -> Result<Texts, NoMemory>
+    ensures exact { IfOk result (λ paths. paths ≡ map spec.path_of entries.now) }
+{
+    let mut paths = Texts::new(alloc);
+    for entry in entries {
+        paths.push(entry.path.copy(alloc)?)?;
+    }
+    Ok(paths)
+}
+
+// A list of texts under its key; nothing of an empty one.
+fn add_texts(
+    alloc: Global,
+    pairs: &mut PairList,
+    key: &str,
+    texts: &[Text],
+) -> Result<(), NoMemory>
+    ensures added { OnOk result (pairs.new ≡ pairs.old ++ spec.texts_part key.now texts.now) }
+{
+    match texts {
+        [] => Ok(()),
+        [_, ..] => add_text_list(alloc, pairs, key, texts),
+    }
+}
+
+fn add_text_list(
+    alloc: Global,
+    pairs: &mut PairList,
+    key: &str,
+    texts: &[Text],
+) -> Result<(), NoMemory>
+    ensures added { OnOk result (pairs.new ≡ pairs.old ++ spec.pair key.now (spec.texts_node texts.now) ∷ []) }
+{
+    let node = list_of_texts(alloc, texts)?;
+    add_pair(alloc, pairs, key, node)
+}
+
+fn add_key_parts(alloc: Global, pairs: &mut PairList, entry: &Entry) -> Result<(), NoMemory>
+    ensures added { OnOk result (pairs.new ≡ pairs.old ++ spec.key_pairs entry.now) }
+{
+    add_commands(alloc, pairs, entry.commands.as_slice())?;
+    add_paths(alloc, pairs, "deps", entry.deps.as_slice())?;
+    add_params(alloc, pairs, entry.params.as_slice())?;
+    let outs = paths_of(alloc, entry.outs.as_slice())?;
+    add_texts(alloc, pairs, "outs", outs.as_slice())
+}
+
+/// The node of what an entry's outputs were made of: that of the entry, with the paths of its outputs alone.
+pub fn key_node(alloc: Global, entry: &Entry) -> Result<Node, NoMemory>
+    ensures exact { IfOk result (λ node. node ≡ spec.key_node entry.now) }
+{
+    let mut pairs = PairList::new(alloc);
+    add_key_parts(alloc, &mut pairs, entry)?;
     Ok(Node::Pairs(pairs))
 }
 
