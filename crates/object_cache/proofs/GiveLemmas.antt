@@ -1,7 +1,7 @@
 -- Laws of one file that is put at its place: the calls that are made for it, one after another.
 --     placed_then            a place after one stretch of moments and another
 --     give_itself, give_then, give_weaker
---     give_of_scratch, give_of_clear, give_of_make, give_of_publish      what each call does
+--     give_of_scratch, give_of_clear, give_of_make, give_of_publish, give_of_write      what each call does
 --     passes_..              the same over histories
 --     .._road, .._lane       what stands on the way to the place, and in the lane
 use Rattle.std.proofs.Common.{◌≡◌, ◌≢◌, ◌⊎◌, ℕ, Bool, true, false, ◌||◌, List, [], ◌∷◌, ◌++◌, refl, sym, ap, subst, ◌∙◌, inl, inr, Option, Some, None, bytes_eq}
@@ -13,7 +13,7 @@ use Rattle.world_api.specs.Tree.{folder, file, item_at}
 use Rattle.world_api.specs.History.{Moment, History, Passes}
 use Rattle.world_api.specs.Calls.{InClear, parent}
 use Rattle.world_api.specs.Layout.{dvc_path, tmp_path, lane_path}
-use Rattle.world_api.specs.Writes.{is_at, IsSameUnder, IsNewFile, IsMade, IsNoFileAt, HasRoad, HasRoom, IsFirmLane, IsFolderAt, InMakeFolder, in_publish, InPublish, in_scratch, InScratch, IsNoScratch}
+use Rattle.world_api.specs.Writes.{is_at, IsSameUnder, IsNewFile, IsMade, IsNoFileAt, HasRoad, HasRoom, IsFirmLane, IsFolderAt, InMakeFolder, in_publish, InPublish, in_scratch, InScratch, in_write, InWrite, IsNoScratch}
 use Rattle.world_api.proofs.HistoryLemmas.{keeps_itself, keeps_then, keeps_in, passes_same, passes_weaker, passes_on}
 use Rattle.world_api.proofs.TreeLemmas.{path_cases, under_parent, parent_apart, split_last}
 use Rattle.world_api.proofs.LaneLemmas.{lane_in_tmp, dvc_above_lane, apart_tmp, apart_dvc, apart_scratch, not_at, lane_apart}
@@ -184,6 +184,21 @@ give_of_publish lane at bytes m n out root stands h = record {
   others = keeps_in (in_publish lane at) (in_give at) m n (λ p o. or_from (under (lane_path lane) p) (under at p) (outside_lane lane p (outside_scratch at p o)) (outside_path at p o).0) h.others;
 }
 
+road_of_write : (at q : Path) (bytes : List ℕ) (m n : Moment) → IsNoScratch at → InWrite at bytes m n → under q at ≡ true → under at q ≡ false → IsMade q m n
+road_of_write at q bytes m n out h u v =
+    elim (path_cases dvc_path q) [
+      | inl s ↦ subst (λ (x : Path). IsMade x m n) s h.dvc
+      | inr ne ↦ inl (same_at q (in_write at) m n h.others (or_from (under at q) (in_scratch q) v (or_from (is_at dvc_path q) (under tmp_path q) (not_at dvc_path q ne) (above_no_tmp at q out u))))
+    ]
+
+pub give_of_write : (at : Path) (bytes : List ℕ) (m n : Moment) → IsNoScratch at → InWrite at bytes m n → InGive at (Some bytes) m n
+give_of_write at bytes m n out h = record {
+  path = elim h.path [ inl a ↦ inl a | inr a ↦ inr (inl a) ];
+  road = λ q u v. road_of_write at q bytes m n out h u v;
+  dvc = h.dvc;
+  others = keeps_in (in_write at) (in_give at) m n (λ p o. or_from (under at p) (in_scratch p) (outside_path at p o).0 (outside_scratch at p o)) h.others;
+}
+
 -- ---- what stands on the way
 
 pub made_no_file : (q : Path) (m n : Moment) → IsMade q m n → IsNoFileAt m.tree q → IsNoFileAt n.tree q
@@ -255,3 +270,7 @@ passes_give at given a b c x y =
 pub passes_scratch : (at : Path) (given : Option (List ℕ)) (a b : History) → IsNoScratch at → at ≢ [] → Passes (InScratch a.present) a b → Passes (InGive at given a.present) a b
 passes_scratch at given a b out root x =
     passes_weaker (InScratch a.present) (InGive at given a.present) a b (λ m h. give_of_scratch at given a.present m out root h) x
+
+pub passes_write : (at : Path) (bytes : List ℕ) (a b c : History) → IsNoScratch at → Passes (InGive at (Some bytes) a.present) a b → Passes (InWrite at bytes b.present) b c → Passes (InGive at (Some bytes) a.present) a c
+passes_write at bytes a b c out x y =
+    passes_on (InGive at (Some bytes) a.present) (InWrite at bytes b.present) a b c x (λ m h. give_then at (Some bytes) a.present b.present m x.now (give_of_write at bytes b.present m out h)) y

@@ -10,11 +10,16 @@ mod paths;
 mod publish;
 mod put;
 mod road;
+mod text;
 mod value;
+mod want;
 
 pub use fault::CacheFault;
 pub use give::give_to;
 pub use listing::listing_of;
 pub use look::{has, whole};
 pub use paths::object_path;
+pub use road::find_road;
+pub use text::put_text;
 pub use value::put_from;
+pub use want::{Want, Wants};

@@ -39,7 +39,7 @@ pub(crate) fn publish_at<F: Files>(alloc: Global, files: &mut F, at: &Rel) -> Re
 }
 
 // Clears a folder at the path.
-fn clear_folder<F: Files>(files: &mut F, at: &Rel) -> Result<(), Failed>
+pub(crate) fn clear_folder<F: Files>(files: &mut F, at: &Rel) -> Result<(), Failed>
     requires apart { IsNoScratch at.now }
     requires below_root { at.now ≢ [] }
     ensures cleared { IsTrue F.tells → OnOk result

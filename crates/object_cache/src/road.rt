@@ -15,8 +15,8 @@ use dvc_base::{Failed, Rel, Text};
 use std::alloc::Global;
 use world_api::{Kind, ReadFiles};
 
-// Refuses where a file stands above the path: by the first one, from above down.
-pub(crate) fn find_road<F: ReadFiles>(
+/// Refuses where a file stands above the path: by the first one, from above down.
+pub fn find_road<F: ReadFiles>(
     alloc: Global,
     files: &mut F,
     at: &Rel,
