@@ -27,3 +27,4 @@ pub mod BarredLemmas
 pub mod StoreLemmas
 pub mod LimitedLemmas
 pub mod RecordLemmas
+pub mod SummaryLemmas

@@ -4,3 +4,4 @@ pub mod Telling
 pub mod Turning
 pub mod Ways
 pub mod Storing
+pub mod Summaries

@@ -1,4 +1,4 @@
-//! The turns of stages: what `repro` does for one stage, and for all of them in order.
+//! The turns of stages: that of one stage, and those of all of them in order.
 #![tactic(auto)]
 
 mod answer;
@@ -15,11 +15,13 @@ mod road;
 mod run;
 mod see;
 mod store;
+mod summary;
 mod tracked;
 mod turn;
 mod turns;
 mod work;
 
 pub use answer::params_answer;
-pub use turn::run_stage;
-pub use turns::repro;
+pub use summary::Summary;
+pub use turn::take_turn;
+pub use turns::take_turns;

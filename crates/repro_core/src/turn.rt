@@ -41,7 +41,7 @@ use world_api::{Sink, World};
 /// isn't 0, and `MissingOutput` with the first output that is missing.
 /// `NotFolder` and `TooLarge` come too where a file or an object is in the way of the cache.
 #[inline(never)]
-pub fn run_stage<W: World, K: Sink>(
+pub fn take_turn<W: World, K: Sink>(
     alloc: Global,
     world: &mut W,
     lock: &mut LockBook,

@@ -1,5 +1,5 @@
 // The turns of stages, one after another.
-ghost use Rattle.std.specs.Prelude.{◌≡◌, [], false, IsTrue, IfErr, OnOk, IsErrOf, Some};
+ghost use Rattle.std.specs.Prelude.{◌≡◌, ◌<◌, ◌^◌, [], false, length, IsTrue, IfOk, IfErr, OnOk, IsErrOf, Some};
 ghost use Rattle.dvc_base.specs.Answer.{fault_in};
 ghost use Rattle.dvc_base.specs.Fault.{MayBe, IsHonest};
 ghost use Rattle.dvc_base.specs.declared.fault.Fault.TheVariants.{WorldFault, OutFault};
@@ -14,10 +14,12 @@ ghost use Rattle.repro_laws.specs.Headline.{IsPlanned, LeavesAnew};
 ghost use Rattle.repro_laws.specs.Moments.{is_own, InTurns};
 ghost use Rattle.repro_laws.specs.Sound.{lock_of, AreReliable, IsAnswerAt, GainsAt, AreHalted, IsReport};
 ghost use Rattle.repro_core.specs.Steps.{turn_kinds};
+ghost use Rattle.repro_core.specs.Summaries.{summary_of, total};
 ghost use Rattle.repro_core.specs.Telling.{TellsOfOne};
 ghost use Rattle.repro_core.specs.Turning.{JobsGain, AreTaken};
 
-use crate::turn::run_stage;
+use crate::summary::Summary;
+use crate::turn::take_turn;
 use dvc_base::Fault;
 use lock_files::LockBook;
 use repro_laws::{Flags, Stage};
@@ -26,16 +28,17 @@ use world_api::{Sink, World};
 
 /// Takes the turn of each stage in order. The lock is that of the workspace.
 ///
-/// The first refusal ends it, and is answered: those of `run_stage`.
-pub fn repro<W: World, K: Sink>(
+/// The first refusal ends it, and is answered: those of `take_turn`.
+pub fn take_turns<W: World, K: Sink>(
     alloc: Global,
     world: &mut W,
     lock: &mut LockBook,
     stages: &[Stage],
     flags: Flags,
     out: &mut K,
-) -> Result<(), Fault>
+) -> Result<Summary, Fault>
     requires planned { IsPlanned is_own stages.now }
+    requires few { length stages.now < 2 ^ 32 }
     requires form { IsBook lock.old }
     requires lock { IsTrue W.tells → lock_of (tree_of (W.history world.old)) ≡ Some lock.old }
     requires place { IsTrue W.tells → CanWrite lock_path (tree_of (W.history world.old)) }
@@ -49,8 +52,10 @@ pub fn repro<W: World, K: Sink>(
         LeavesAnew is_own effect stages.now
         (state (tree_of (W.history world.old)) lock.old) (state (tree_of (W.history world.new)) lock.new))) }
     // Whatever was remembered, Ok leaves turns of all stages, whose jobs have run.
-    ensures taken { OnOk result (WithEffect W.tells (W.history world.old) (λ effect.
-        AreTaken flags effect stages.now lock.old lock.new (W.history world.old).present (W.history world.new).present)) }
+    ensures taken { IfOk result (λ summary. WithEffect W.tells (W.history world.old) (λ effect.
+        (turns : AreTaken flags effect stages.now lock.old lock.new (W.history world.old).present (W.history world.new).present)
+        × (summary ≡ summary_of turns.ended))) }
+    ensures counted { IfOk result (λ summary. total summary ≡ length stages.now) }
     ensures remembered { IsTrue W.tells → OnOk result (lock_of (tree_of (W.history world.new)) ≡ Some lock.new) }
     ensures form { IsBook lock.new }
 
@@ -96,8 +101,10 @@ pub fn repro<W: World, K: Sink>(
     ensures kinds { MayBe turn_kinds (fault_in result) }
     ensures honest { IsHonest W.tells (fault_in result) }
 {
+    let mut summary = Summary::none();
     for stage in stages {
-        run_stage(alloc, world, lock, stage, flags, out)?;
+        let choice = take_turn(alloc, world, lock, stage, flags, out)?;
+        summary.count(choice);
     }
-    Ok(())
+    Ok(summary)
 }

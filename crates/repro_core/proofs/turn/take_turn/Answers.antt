@@ -6,7 +6,7 @@ use Rattle.repro_laws.specs.declared.stage.Choice.TheVariants.{Run}
 use Rattle.repro_core.proofs.OneStageLemmas.{turned_refused, report_refused}
 use Rattle.repro_core.proofs.OptionLemmas.{if_some}
 use Rattle.repro_core.proofs.TurnedLemmas.{TurnedBy}
-use Rattle.repro_core.proofs.turn.run_stage.Goals as goal
+use Rattle.repro_core.proofs.turn.take_turn.Goals as goal
 
 pub returns-in_err-chosen-clause-turned : goal.returns-in_err-chosen-clause-turned
 returns-in_err-chosen-clause-turned g c told =

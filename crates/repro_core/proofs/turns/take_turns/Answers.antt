@@ -19,8 +19,12 @@ use Rattle.repro_core.proofs.SoFarLemmas.{SoFar, Spot, so_far_none, seen_before,
 use Rattle.repro_core.proofs.ToldLemmas.{IsTold, told_none, told_more, told_all, told_halt}
 use Rattle.repro_core.proofs.ExitLemmas.{IsHalt, halt_left, halt_moments, halt_answer, halt_ran, halt_report, IsEnd, IsDueAll, end_headline}
 use Rattle.repro_core.proofs.ReproLemmas.{cut_at, front_at, each_at, alone_at, spot, spot_at, known_at, halt_at, end_at, idle_more, idle_halt}
-use Rattle.repro_core.proofs.turns.repro.Given.{Over}
-use Rattle.repro_core.proofs.turns.repro.Goals as goal
+use Rattle.repro_core.proofs.turns.take_turns.Given.{Over}
+use Rattle.repro_core.proofs.turns.take_turns.Goals as goal
+
+-- no turn has ended
+counted_at_start : (g : Over) (c : goal.Before-loop-stage g) (effect : Effect) → Counted c.args.flags effect [] c.args.lock.now c.args.lock.now (g.W.Ground.history c.args.world.now) (g.W.Ground.history c.args.world.now) g.K.Sink.tells (g.K.Sink.taken c.args.out.now) (g.K.Sink.taken c.args.out.now) c.none.result
+counted_at_start g c effect = subst (λ (s : Summary). Counted c.args.flags effect [] c.args.lock.now c.args.lock.now (g.W.Ground.history c.args.world.now) (g.W.Ground.history c.args.world.now) g.K.Sink.tells (g.K.Sink.taken c.args.out.now) (g.K.Sink.taken c.args.out.now) s) (sym c.none.ensures.exact) (counted_none c.args.flags effect c.args.lock.now (g.W.Ground.history c.args.world.now) g.K.Sink.tells (g.K.Sink.taken c.args.out.now))
 
 pub loop-stage-init : goal.loop-stage-init
 loop-stage-init g c =
@@ -28,7 +32,8 @@ loop-stage-init g c =
       form = c.requires.form;
       place = c.requires.place;
       read = c.requires.lock;
-      so_far = λ told effect e. so_far_none c.args.flags effect c.args.lock.now (g.W.Ground.history c.args.world.now) g.K.Sink.tells (g.K.Sink.taken c.args.out.now);
+      so_far = λ told effect e. counted_at_start g c effect;
+      all = refl;
       lines = λ told. told_none (g.K.Sink.taken c.args.out.now);
       idle = λ told effect e nothing. (refl, refl);
       world_counted = search rules;
@@ -37,16 +42,16 @@ loop-stage-init g c =
 
 -- ---- what a turn asks
 
-pub run_stage-requires-clause-stage : goal.run_stage-requires-clause-stage
-run_stage-requires-clause-stage g c =
+pub take_turn-requires-clause-stage : goal.take_turn-requires-clause-stage
+take_turn-requires-clause-stage g c =
     each_at IsStage c.args.stages.now c.loop-stage.stage-index c.stage-item.result c.loop-stage-test.true c.stage-item.is c.requires.planned.each
 
-pub run_stage-requires-clause-kept : goal.run_stage-requires-clause-kept
-run_stage-requires-clause-kept g c =
+pub take_turn-requires-clause-kept : goal.take_turn-requires-clause-kept
+take_turn-requires-clause-kept g c =
     each_at (IsKept is_own) c.args.stages.now c.loop-stage.stage-index c.stage-item.result c.loop-stage-test.true c.stage-item.is c.requires.planned.kept
 
-pub run_stage-requires-clause-ordered : goal.run_stage-requires-clause-ordered
-run_stage-requires-clause-ordered g c =
+pub take_turn-requires-clause-ordered : goal.take_turn-requires-clause-ordered
+take_turn-requires-clause-ordered g c =
     alone_at c.args.stages.now c.loop-stage.stage-index c.stage-item.result c.loop-stage-test.true c.stage-item.is c.requires.planned.order
 
 -- ---- a turn is refused
@@ -55,7 +60,7 @@ abbrev refused_spot : (g : Over) → goal.After-from_residual g → Effect → S
 refused_spot g c =
     spot c.args.flags c.args.stages.now c.loop-stage.stage-index c.stage-item.result c.args.lock.now c.loop-stage.lock (g.W.Ground.history c.args.world.now) (g.W.Ground.history c.loop-stage.world) g.K.Sink.tells (g.K.Sink.taken c.args.out.now) (g.K.Sink.taken c.loop-stage.out)
 
-refused : (g : Over) (c : goal.After-from_residual g) → IsTrue g.W.Ground.tells → (effect : Effect) → (g.W.Ground.history c.args.world.now).present.aside.fixed.effect ≡ Some effect → IsHalt (refused_spot g c effect) c.in_err-run_stage.field-0.0 (g.W.Ground.history c.run_stage.new.world) (g.K.Sink.taken c.run_stage.new.out)
+refused : (g : Over) (c : goal.After-from_residual g) → IsTrue g.W.Ground.tells → (effect : Effect) → (g.W.Ground.history c.args.world.now).present.aside.fixed.effect ≡ Some effect → IsHalt (refused_spot g c effect) c.in_err-take_turn.field-0.0 (g.W.Ground.history c.take_turn.new.world) (g.K.Sink.taken c.take_turn.new.out)
 refused g c told effect e =
     let all = c.args.stages.now in
     let i = c.loop-stage.stage-index in
@@ -67,118 +72,118 @@ refused g c told effect e =
     let before = g.K.Sink.taken c.args.out.now in
     let mid = g.K.Sink.taken c.loop-stage.out in
     let inv = c.loop-stage.invariant in
-    let of = c.in_err-run_stage.ensures in
-    let so = inv.so_far told effect e in
+    let of = c.in_err-take_turn.ensures in
+    let so = (inv.so_far told effect e).0 in
     let at = spot_at c.args.flags all i s old lock a k g.K.Sink.tells before mid effect c.loop-stage-test.true c.stage-item.is c.requires.planned (g.met.W.ReadFiles.stands c.args.world.now told).0 c.requires.no_restore so in
     let known = known_at c.args.flags all i s old lock a k g.K.Sink.tells before mid effect so e in
-    halt_at (refused_spot g c effect) c.in_err-run_stage.field-0.0 c.run_stage.new.lock (g.W.Ground.history c.run_stage.new.world) (g.K.Sink.taken c.run_stage.new.out) at known (of.turned told) (λ t. of.report told t) (of.lines_first told)
+    halt_at (refused_spot g c effect) c.in_err-take_turn.field-0.0 c.take_turn.new.lock (g.W.Ground.history c.take_turn.new.world) (g.K.Sink.taken c.take_turn.new.out) at known (of.turned told) (λ t. of.report told t) (of.lines_first told)
 
-pub returns-in_err-run_stage-clause-answer : goal.returns-in_err-run_stage-clause-answer
-returns-in_err-run_stage-clause-answer g c told =
+pub returns-in_err-take_turn-clause-answer : goal.returns-in_err-take_turn-clause-answer
+returns-in_err-take_turn-clause-answer g c told =
     let all = c.args.stages.now in
     let a = g.W.Ground.history c.args.world.now in
-    let n = g.W.Ground.history c.run_stage.new.world in
+    let n = g.W.Ground.history c.take_turn.new.world in
     let old = c.args.lock.now in
     let flags = c.args.flags in
     let before = g.K.Sink.taken c.args.out.now in
-    let taken = g.K.Sink.taken c.run_stage.new.out in
-    let fault = c.in_err-run_stage.field-0.0 in
+    let taken = g.K.Sink.taken c.take_turn.new.out in
+    let fault = c.in_err-take_turn.field-0.0 in
     let x = refused_spot g c in
     let exit = err_from_is_err_and c.from_residual.result c.from_residual.ensures.1 in
     rw (exit.1, exit.2) (if_some a.present.aside.fixed.effect (λ effect. AreReliable effect all old a.present n.present → IsAnswerAt (tree_of n) (Some fault) (fault_of flags effect all (standing_of (tree_of a) old))) (λ effect e. λ safe. halt_answer (x effect) fault n taken (refused g c told effect e) safe))
 
-pub returns-in_err-run_stage-clause-ran : goal.returns-in_err-run_stage-clause-ran
-returns-in_err-run_stage-clause-ran g c told =
+pub returns-in_err-take_turn-clause-ran : goal.returns-in_err-take_turn-clause-ran
+returns-in_err-take_turn-clause-ran g c told =
     let all = c.args.stages.now in
     let a = g.W.Ground.history c.args.world.now in
-    let n = g.W.Ground.history c.run_stage.new.world in
+    let n = g.W.Ground.history c.take_turn.new.world in
     let old = c.args.lock.now in
     let flags = c.args.flags in
     let before = g.K.Sink.taken c.args.out.now in
-    let taken = g.K.Sink.taken c.run_stage.new.out in
-    let fault = c.in_err-run_stage.field-0.0 in
+    let taken = g.K.Sink.taken c.take_turn.new.out in
+    let fault = c.in_err-take_turn.field-0.0 in
     let x = refused_spot g c in
     let exit = err_from_is_err_and c.from_residual.result c.from_residual.ensures.1 in
     rw (exit.1, exit.2) (if_some a.present.aside.fixed.effect (λ effect. AreReliable effect all old a.present n.present → JobsGain (tree_of n) (Some fault) (jobs_of a) (jobs (due flags effect all (standing_of (tree_of a) old))) (jobs_of n)) (λ effect e. λ safe. halt_ran (x effect) fault n taken (refused g c told effect e) safe))
 
-pub returns-in_err-run_stage-clause-report : goal.returns-in_err-run_stage-clause-report
-returns-in_err-run_stage-clause-report g c lines told =
+pub returns-in_err-take_turn-clause-report : goal.returns-in_err-take_turn-clause-report
+returns-in_err-take_turn-clause-report g c lines told =
     let all = c.args.stages.now in
     let a = g.W.Ground.history c.args.world.now in
-    let n = g.W.Ground.history c.run_stage.new.world in
+    let n = g.W.Ground.history c.take_turn.new.world in
     let old = c.args.lock.now in
     let flags = c.args.flags in
     let before = g.K.Sink.taken c.args.out.now in
-    let taken = g.K.Sink.taken c.run_stage.new.out in
-    let fault = c.in_err-run_stage.field-0.0 in
+    let taken = g.K.Sink.taken c.take_turn.new.out in
+    let fault = c.in_err-take_turn.field-0.0 in
     let x = refused_spot g c in
     let exit = err_from_is_err_and c.from_residual.result c.from_residual.ensures.1 in
     rw (exit.1, exit.2) (if_some a.present.aside.fixed.effect (λ effect. AreReliable effect all old a.present n.present → GainsAt (tree_of n) (Some fault) before (report (due flags effect all (standing_of (tree_of a) old))) taken) (λ effect e. λ safe. halt_report (x effect) fault n taken (refused g c told effect e) safe lines))
 
-pub returns-in_err-run_stage-clause-halted : goal.returns-in_err-run_stage-clause-halted
-returns-in_err-run_stage-clause-halted g c =
+pub returns-in_err-take_turn-clause-halted : goal.returns-in_err-take_turn-clause-halted
+returns-in_err-take_turn-clause-halted g c =
     let all = c.args.stages.now in
     let a = g.W.Ground.history c.args.world.now in
-    let n = g.W.Ground.history c.run_stage.new.world in
+    let n = g.W.Ground.history c.take_turn.new.world in
     let old = c.args.lock.now in
     let flags = c.args.flags in
     let before = g.K.Sink.taken c.args.out.now in
-    let taken = g.K.Sink.taken c.run_stage.new.out in
-    let fault = c.in_err-run_stage.field-0.0 in
+    let taken = g.K.Sink.taken c.take_turn.new.out in
+    let fault = c.in_err-take_turn.field-0.0 in
     let x = refused_spot g c in
     let exit = err_from_is_err_and c.from_residual.result c.from_residual.ensures.1 in
     rw (exit.1, exit.2) (λ told. if_some a.present.aside.fixed.effect (λ effect. AreHalted flags effect all old fault a.present n.present) (λ effect e. halt_left (x effect) fault n taken (refused g c told effect e)))
 
-pub returns-in_err-run_stage-clause-moments : goal.returns-in_err-run_stage-clause-moments
-returns-in_err-run_stage-clause-moments g c told =
+pub returns-in_err-take_turn-clause-moments : goal.returns-in_err-take_turn-clause-moments
+returns-in_err-take_turn-clause-moments g c told =
     let all = c.args.stages.now in
     let a = g.W.Ground.history c.args.world.now in
-    let n = g.W.Ground.history c.run_stage.new.world in
+    let n = g.W.Ground.history c.take_turn.new.world in
     let old = c.args.lock.now in
     let flags = c.args.flags in
     let before = g.K.Sink.taken c.args.out.now in
-    let taken = g.K.Sink.taken c.run_stage.new.out in
-    let fault = c.in_err-run_stage.field-0.0 in
+    let taken = g.K.Sink.taken c.take_turn.new.out in
+    let fault = c.in_err-take_turn.field-0.0 in
     let x = refused_spot g c in
     let exit = err_from_is_err_and c.from_residual.result c.from_residual.ensures.1 in
     (if_some a.present.aside.fixed.effect (λ effect. Passes (InTurns flags effect all old a.present n.present) a n) (λ effect e. halt_moments (x effect) fault n taken (refused g c told effect e)))
 
-pub returns-in_err-run_stage-clause-lines : goal.returns-in_err-run_stage-clause-lines
-returns-in_err-run_stage-clause-lines g c told =
+pub returns-in_err-take_turn-clause-lines : goal.returns-in_err-take_turn-clause-lines
+returns-in_err-take_turn-clause-lines g c told =
     let all = c.args.stages.now in
     let i = c.loop-stage.stage-index in
     let s = c.stage-item.result in
     let before = g.K.Sink.taken c.args.out.now in
     let mid = g.K.Sink.taken c.loop-stage.out in
-    let taken = g.K.Sink.taken c.run_stage.new.out in
-    let fault = c.in_err-run_stage.field-0.0 in
+    let taken = g.K.Sink.taken c.take_turn.new.out in
+    let fault = c.in_err-take_turn.field-0.0 in
     let cut = cut_at all i s c.loop-stage-test.true c.stage-item.is in
     let exit = err_from_is_err_and c.from_residual.result c.from_residual.ensures.1 in
-    let took = c.in_err-run_stage.ensures.front told in
+    let took = c.in_err-take_turn.ensures.front told in
     rw (exit.1, exit.2) (subst (λ (l : List Stage). IsReport l (Some fault) before taken) (sym cut) (told_halt (take i all) s took.0 (drop (i + 1) all) fault before mid taken (c.loop-stage.invariant.lines told) took.1))
 
-pub returns-in_err-run_stage-clause-told : goal.returns-in_err-run_stage-clause-told
-returns-in_err-run_stage-clause-told g c =
+pub returns-in_err-take_turn-clause-told : goal.returns-in_err-take_turn-clause-told
+returns-in_err-take_turn-clause-told g c =
     let all = c.args.stages.now in
     let i = c.loop-stage.stage-index in
     let s = c.stage-item.result in
     let cut = cut_at all i s c.loop-stage-test.true c.stage-item.is in
     let exit = err_from_is_err_and c.from_residual.result c.from_residual.ensures.1 in
-    rw (exit.1, exit.2) (record { stage = s; before = take i all; after = drop (i + 1) all; cut = cut; own = c.in_err-run_stage.ensures.told })
+    rw (exit.1, exit.2) (record { stage = s; before = take i all; after = drop (i + 1) all; cut = cut; own = c.in_err-take_turn.ensures.told })
 
-pub returns-in_err-run_stage-clause-untouched : goal.returns-in_err-run_stage-clause-untouched
-returns-in_err-run_stage-clause-untouched g c told =
+pub returns-in_err-take_turn-clause-untouched : goal.returns-in_err-take_turn-clause-untouched
+returns-in_err-take_turn-clause-untouched g c told =
     let all = c.args.stages.now in
     let i = c.loop-stage.stage-index in
     let s = c.stage-item.result in
     let a = g.W.Ground.history c.args.world.now in
     let k = g.W.Ground.history c.loop-stage.world in
-    let n = g.W.Ground.history c.run_stage.new.world in
+    let n = g.W.Ground.history c.take_turn.new.world in
     let old = c.args.lock.now in
     let flags = c.args.flags in
     let inv = c.loop-stage.invariant in
     let cut = cut_at all i s c.loop-stage-test.true c.stage-item.is in
-    if_some a.present.aside.fixed.effect (λ effect. due flags effect all (standing_of (tree_of a) old) ≡ [] → n ≡ a) (λ effect e. λ nothing. let idle = inv.idle told effect e nothing in idle_halt flags effect all (take i all) s (drop (i + 1) all) old a k n cut idle.0 idle.1 nothing (c.run_stage.ensures.refused_first told))
+    if_some a.present.aside.fixed.effect (λ effect. due flags effect all (standing_of (tree_of a) old) ≡ [] → n ≡ a) (λ effect e. λ nothing. let idle = inv.idle told effect e nothing in idle_halt flags effect all (take i all) s (drop (i + 1) all) old a k n cut idle.0 idle.1 nothing (c.take_turn.ensures.refused_first told))
 
 -- ---- a turn has ended
 
@@ -193,29 +198,29 @@ loop-stage-preserved g c =
     let tells = g.K.Sink.tells in
     let a = g.W.Ground.history c.args.world.now in
     let k = g.W.Ground.history c.loop-stage.world in
-    let n = g.W.Ground.history c.run_stage.new.world in
+    let n = g.W.Ground.history c.take_turn.new.world in
     let old = c.args.lock.now in
     let lock = c.loop-stage.lock in
-    let new = c.run_stage.new.lock in
+    let new = c.take_turn.new.lock in
     let before = g.K.Sink.taken c.args.out.now in
     let mid = g.K.Sink.taken c.loop-stage.out in
-    let taken = g.K.Sink.taken c.run_stage.new.out in
+    let taken = g.K.Sink.taken c.take_turn.new.out in
     let inv = c.loop-stage.invariant in
-    let chosen = c.in_ok-run_stage.field-0 in
-    let of = c.in_ok-run_stage.ensures in
+    let chosen = c.in_ok-take_turn.field-0 in
+    let of = c.in_ok-take_turn.ensures in
     let more = front_at all i s within here in
     let x : Effect → Spot = spot flags all i s old lock a k tells before mid in
     let took : IsTrue g.W.Ground.tells → (effect : Effect) → a.present.aside.fixed.effect ≡ Some effect → Turned flags effect s chosen lock new None k n =
     λ told effect e.
-    let known = known_at flags all i s old lock a k tells before mid effect (inv.so_far told effect e) e in
+    let known = known_at flags all i s old lock a k tells before mid effect (inv.so_far told effect e).0 e in
     let turn = if_some_at k.present.aside.fixed.effect (λ f. (choice : Choice) × (chosen ≡ choice) × Turned flags f s choice lock new None k n) effect known (of.turned told) in
     subst (λ (choice : Choice). Turned flags effect s choice lock new None k n) (sym turn.1) turn.2 in
     record {
-      form = c.run_stage.ensures.form;
+      form = c.take_turn.ensures.form;
       place = of.place;
       read = of.remembered;
       so_far = λ told effect e.
-          let at = spot_at flags all i s old lock a k tells before mid effect within here c.requires.planned (g.met.W.ReadFiles.stands c.args.world.now told).0 c.requires.no_restore (inv.so_far told effect e) in
+          let at = spot_at flags all i s old lock a k tells before mid effect within here c.requires.planned (g.met.W.ReadFiles.stands c.args.world.now told).0 c.requires.no_restore (inv.so_far told effect e).0 in
           subst (λ (l : List Stage). SoFar flags effect l old new a n tells before taken) (sym more) (so_far_more (x effect) at n chosen new taken (took told effect e) of.lines);
       lines = λ told. subst (λ (l : List Stage). IsTold l before taken) (sym more) (told_more (take i all) s chosen before mid taken (inv.lines told) (of.lines told));
       idle = λ told effect e nothing. let idle = inv.idle told effect e nothing in absurd (idle_more flags effect all (take i all) s (drop (i + 1) all) old a k (cut_at all i s within here) idle.0 idle.1 nothing (seen_before flags effect s chosen lock new k n (took told effect e)));
@@ -230,7 +235,7 @@ ended g c told effect e =
     let all = c.args.stages.now in
     let i = c.loop-stage.stage-index in
     let inv = c.loop-stage.invariant in
-    end_at c.args.flags effect all (take i all) c.args.lock.now c.loop-stage.lock (g.W.Ground.history c.args.world.now) (g.W.Ground.history c.loop-stage.world) g.K.Sink.tells (g.K.Sink.taken c.args.out.now) (g.K.Sink.taken c.loop-stage.out) (take_all i all c.loop-stage-test.false) c.requires.planned (g.met.W.ReadFiles.stands c.args.world.now told).0 (inv.read told) c.requires.no_restore (inv.so_far told effect e)
+    end_at c.args.flags effect all (take i all) c.args.lock.now c.loop-stage.lock (g.W.Ground.history c.args.world.now) (g.W.Ground.history c.loop-stage.world) g.K.Sink.tells (g.K.Sink.taken c.args.out.now) (g.K.Sink.taken c.loop-stage.out) (take_all i all c.loop-stage-test.false) c.requires.planned (g.met.W.ReadFiles.stands c.args.world.now told).0 (inv.read told) c.requires.no_restore (inv.so_far told effect e).0
 
 reliable_due : (g : Over) (c : goal.After-loop-stage g) (told : IsTrue g.W.Ground.tells) (effect : Effect) (e : (g.W.Ground.history c.args.world.now).present.aside.fixed.effect ≡ Some effect) → AreReliable effect c.args.stages.now c.args.lock.now (g.W.Ground.history c.args.world.now).present (g.W.Ground.history c.loop-stage.world).present → IsDueAll c.args.flags effect c.args.stages.now c.args.lock.now c.loop-stage.lock (IsEnd.so_far (ended g c told effect e)).ended (g.W.Ground.history c.args.world.now) (g.W.Ground.history c.loop-stage.world)
 reliable_due g c told effect e safe =
