@@ -79,7 +79,7 @@ spot flags all i s start lock a k tells before mid effect = record {
 }
 
 module _ (flags : Flags) (all : List Stage) (i : ℕ) (s : Stage) (start lock : Lock) (a k : History) (tells : Bool) (before mid : List ℕ) (effect : Effect) where
-  pub spot_at : i < length all → s ≡ get_or all i s → IsPlanned is_own all → IsTree a.present.tree → flags.run_cache ≡ false → SoFar flags effect (take i all) start lock a k tells before mid → IsSpot (spot flags all i s start lock a k tells before mid effect)
+  unfoldable pub spot_at : i < length all → s ≡ get_or all i s → IsPlanned is_own all → IsTree a.present.tree → flags.run_cache ≡ false → SoFar flags effect (take i all) start lock a k tells before mid → IsSpot (spot flags all i s start lock a k tells before mid effect)
   spot_at within here plan tree none so =
       let cut = cut_at all i s within here in
       record {

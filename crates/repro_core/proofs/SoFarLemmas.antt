@@ -37,11 +37,11 @@ report_append xs ys = flat_map-append (λ d. lines_of d.stage d.choice) xs ys
 pub jobs_append : (xs ys : List Due) → jobs (xs ++ ys) ≡ jobs xs ++ jobs ys
 jobs_append xs ys = flat_map-append jobs_of_due xs ys
 
-push : {A : Type 0} (of : List Due → List A) → ((xs ys : List Due) → of (xs ++ ys) ≡ of xs ++ of ys) → (ds : List Due) (d : Due) (before mid after : List A) → mid ≡ before ++ of ds → after ≡ mid ++ of (d ∷ []) → after ≡ before ++ of (ds ++ d ∷ [])
+pub push : {A : Type 0} (of : List Due → List A) → ((xs ys : List Due) → of (xs ++ ys) ≡ of xs ++ of ys) → (ds : List Due) (d : Due) (before mid after : List A) → mid ≡ before ++ of ds → after ≡ mid ++ of (d ∷ []) → after ≡ before ++ of (ds ++ d ∷ [])
 push of law ds d before mid after so_far more =
     more ∙ ap (λ l. l ++ of (d ∷ [])) so_far ∙ append_assoc before (of ds) (of (d ∷ [])) ∙ ap (λ l. before ++ l) (sym (law ds (d ∷ [])))
 
-one_report : (s : Stage) (choice : Choice) (d : Due) → d.stage ≡ s → d.choice ≡ choice → lines_of s choice ≡ report (d ∷ [])
+pub one_report : (s : Stage) (choice : Choice) (d : Due) → d.stage ≡ s → d.choice ≡ choice → lines_of s choice ≡ report (d ∷ [])
 one_report s choice d its chosen =
     ap (λ (x : Stage). lines_of x choice) (sym its) ∙ ap (lines_of d.stage) (sym chosen) ∙ sym (append-nil (lines_of d.stage d.choice))
 
@@ -61,7 +61,7 @@ pub record SoFar (flags : Flags) (effect : Effect) (done : List Stage) (start lo
   pub lines : IsTrue tells → taken ≡ before ++ report ended
   pub moments : Passes (InTurns flags effect done start a.present k.present) a k
 
-pub so_far_none : (flags : Flags) (effect : Effect) (lock : Lock) (a : History) (tells : Bool) (before : List ℕ) → SoFar flags effect [] lock lock a a tells before before
+unfoldable pub so_far_none : (flags : Flags) (effect : Effect) (lock : Lock) (a : History) (tells : Bool) (before : List ℕ) → SoFar flags effect [] lock lock a a tells before before
 so_far_none flags effect lock a tells before =
     record {
       upto = up_to_none flags effect lock a.present;
@@ -133,11 +133,11 @@ module _ (x : Spot) (at : IsSpot x) (n : History) where
 
   module _ (choice : Choice) (new : Lock) (taken : List ℕ) (turned : Turned x.flags x.effect x.stage choice x.lock new None x.reached n) where
     -- the job of a turn that ended is that of what was due
-    ran_more : (d : Due) → due x.flags x.effect (x.stage ∷ []) (standing_of (tree_of x.reached) x.lock) ≡ d ∷ [] → jobs_of n ≡ jobs_of x.reached ++ jobs (d ∷ [])
+    pub ran_more : (d : Due) → due x.flags x.effect (x.stage ∷ []) (standing_of (tree_of x.reached) x.lock) ≡ d ∷ [] → jobs_of n ≡ jobs_of x.reached ++ jobs (d ∷ [])
     ran_more d e =
         gain_ended (tree_of n) (jobs_of x.reached) (jobs (due x.flags x.effect (x.stage ∷ []) (standing_of (tree_of x.reached) x.lock))) (jobs_of n) turned.ran ∙ ap (λ (ds : List Due). jobs_of x.reached ++ jobs ds) e
 
-    pub so_far_more : (IsTrue x.tells → taken ≡ x.mid ++ lines_of x.stage choice) → SoFar x.flags x.effect (x.done ++ x.stage ∷ []) x.start new x.begin n x.tells x.before taken
+    unfoldable pub so_far_more : (IsTrue x.tells → taken ≡ x.mid ++ lines_of x.stage choice) → SoFar x.flags x.effect (x.done ++ x.stage ∷ []) x.start new x.begin n x.tells x.before taken
     so_far_more lines =
         let so = at.so_far in
         let has = turned.turn refl in

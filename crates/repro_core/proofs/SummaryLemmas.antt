@@ -1,16 +1,20 @@
 -- The counts of turns, and one turn more.
 --     Counted                       the turns of the first stages have ended and were counted
 --     counted_none, counted_more    before the first turn, and after one turn more
+--     spot_counted                  they are those of the place where the next turn begins
 --     taken_of                      what they are of all stages
 --     total_more                    one more in all
-use Rattle.std.proofs.Common.{◌≡◌, ℕ, ◌+◌, None, Bool, true, false, if◌then◌else◌, List, [], ◌∷◌, ◌++◌, length, refl, sym, ap, subst, ◌∙◌, IsTrue, arith, rules}
+use Rattle.std.proofs.Common.{◌≡◌, ℕ, ◌+◌, ◌<◌, None, Bool, true, false, if◌then◌else◌, List, [], ◌∷◌, ◌++◌, length, take, get_or, refl, ap, subst, ◌∙◌, IsTrue, arith}
 use Rattle.std.specs.List.{filter}
 use Rattle.std.proofs.lemmas.List.{length-append}
 use Rattle.std.proofs.lemmas.List.Elements.{filter-append}
+use Rattle.world_api.specs.Tree.{IsTree}
 use Rattle.world_api.specs.Effect.{Effect}
 use Rattle.world_api.specs.History.{History}
 use Rattle.lock_files.specs.Book.{Lock}
 use Rattle.repro_laws.specs.Due.{Due, lines_of}
+use Rattle.repro_laws.specs.Headline.{IsPlanned}
+use Rattle.repro_laws.specs.Moments.{is_own}
 use Rattle.repro_laws.specs.declared.stage.Stage.{Stage}
 use Rattle.repro_laws.specs.declared.stage.Flags.{Flags}
 use Rattle.repro_laws.specs.declared.stage.Choice.{Choice}
@@ -19,6 +23,7 @@ use Rattle.repro_core.specs.Summaries.{is_choice, has_choice, count_of, summary_
 use Rattle.repro_core.specs.Turning.{Turned, AreTaken}
 use Rattle.repro_core.specs.declared.summary.Summary.{Summary}
 use Rattle.repro_core.proofs.SoFarLemmas.{SoFar, so_far_none, Spot, IsSpot, so_far_more}
+use Rattle.repro_core.proofs.ReproLemmas.{spot_at}
 
 -- ---- counts
 
@@ -37,7 +42,10 @@ grown choice chosen ds d e =
 and_none : (m n : ℕ) → m ≡ n + 0 → m ≡ n
 and_none m n e = omega (e, arith)
 
-summary_same : (a b c x y z : ℕ) → x ≡ a → y ≡ b → z ≡ c → record { run = a; restored = b; skipped = c } ≡ record { run = x; restored = y; skipped = z }
+abbrev counts : ℕ → ℕ → ℕ → Summary
+counts run restored skipped = record { run = run; restored = restored; skipped = skipped }
+
+summary_same : (a b c x y z : ℕ) → x ≡ a → y ≡ b → z ≡ c → counts a b c ≡ counts x y z
 summary_same a b c x y z e f g = rw (e, f, g) refl
 
 summary_more : (ds : List Due) (d : Due) (choice : Choice) → d.choice ≡ choice → with_choice choice (summary_of ds) ≡ summary_of (ds ++ d ∷ [])
@@ -69,6 +77,13 @@ pub counted_more : (x : Spot) (at : IsSpot x) (n : History) (choice : Choice) (n
 unfolding so_far_more
 counted_more x at n choice new taken turned lines summary more so e =
     (so_far_more x at n choice new taken turned lines, e ∙ ap (with_choice choice) so ∙ summary_more at.so_far.ended (turned.turn refl).due choice (turned.turn refl).chosen)
+
+pub spot_counted : (flags : Flags) (all : List Stage) (i : ℕ) (s : Stage) (start lock : Lock) (a k : History) (tells : Bool) (before mid : List ℕ) (effect : Effect)
+    (within : i < length all) (here : s ≡ get_or all i s) (plan : IsPlanned is_own all) (tree : IsTree a.present.tree) (none : flags.run_cache ≡ false)
+    (so : SoFar flags effect (take i all) start lock a k tells before mid) (summary : Summary) → summary ≡ summary_of so.ended
+    → summary ≡ summary_of (spot_at flags all i s start lock a k tells before mid effect within here plan tree none so).so_far.ended
+unfolding spot_at
+spot_counted flags all i s start lock a k tells before mid effect within here plan tree none so summary e = e
 
 -- ---- of all stages
 

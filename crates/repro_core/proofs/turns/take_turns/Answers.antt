@@ -1,6 +1,6 @@
 -- Each turn adds to those so far; a refusal ends them, and so does the last stage.
-use Rattle.std.proofs.Common.{rules, ◌≡◌, ◌+◌, List, [], ◌++◌, take, drop, inl, refl, sym, ap, subst, ◌∙◌, Some, None, IsTrue}
-use Rattle.std.proofs.lemmas.List.{take_all}
+use Rattle.std.proofs.Common.{rules, ◌≡◌, ℕ, ◌+◌, List, length, [], ◌∷◌, ◌++◌, take, drop, inl, refl, sym, ap, subst, ◌∙◌, Some, None, IsTrue}
+use Rattle.std.proofs.lemmas.List.{take_all, length-append}
 use Rattle.std.proofs.lemmas.Result.{err_from_is_err_and}
 use Rattle.world_api.specs.Effect.{Effect}
 use Rattle.world_api.specs.History.{Passes}
@@ -15,16 +15,16 @@ use Rattle.repro_laws.specs.declared.stage.Stage.{Stage}
 use Rattle.repro_laws.specs.declared.stage.Choice.{Choice}
 use Rattle.repro_core.specs.Turning.{Turned, JobsGain, AreTaken}
 use Rattle.repro_core.proofs.OptionLemmas.{if_some, if_some_at}
-use Rattle.repro_core.proofs.SoFarLemmas.{SoFar, Spot, so_far_none, seen_before, so_far_more}
+use Rattle.repro_core.specs.Summaries.{summary_of, total}
+use Rattle.repro_core.specs.declared.summary.Summary.{Summary}
+use Rattle.repro_core.proofs.SoFarLemmas.{Spot, seen_before}
+use Rattle.repro_core.proofs.SummaryLemmas.{Counted, counted_none, spot_counted, counted_more, total_more, taken_of}
 use Rattle.repro_core.proofs.ToldLemmas.{IsTold, told_none, told_more, told_all, told_halt}
 use Rattle.repro_core.proofs.ExitLemmas.{IsHalt, halt_left, halt_moments, halt_answer, halt_ran, halt_report, IsEnd, IsDueAll, end_headline}
 use Rattle.repro_core.proofs.ReproLemmas.{cut_at, front_at, each_at, alone_at, spot, spot_at, known_at, halt_at, end_at, idle_more, idle_halt}
 use Rattle.repro_core.proofs.turns.take_turns.Given.{Over}
+use Rattle.repro_core.proofs.turns.take_turns.Goals.{After-from_residual}
 use Rattle.repro_core.proofs.turns.take_turns.Goals as goal
-
--- no turn has ended
-counted_at_start : (g : Over) (c : goal.Before-loop-stage g) (effect : Effect) → Counted c.args.flags effect [] c.args.lock.now c.args.lock.now (g.W.Ground.history c.args.world.now) (g.W.Ground.history c.args.world.now) g.K.Sink.tells (g.K.Sink.taken c.args.out.now) (g.K.Sink.taken c.args.out.now) c.none.result
-counted_at_start g c effect = subst (λ (s : Summary). Counted c.args.flags effect [] c.args.lock.now c.args.lock.now (g.W.Ground.history c.args.world.now) (g.W.Ground.history c.args.world.now) g.K.Sink.tells (g.K.Sink.taken c.args.out.now) (g.K.Sink.taken c.args.out.now) s) (sym c.none.ensures.exact) (counted_none c.args.flags effect c.args.lock.now (g.W.Ground.history c.args.world.now) g.K.Sink.tells (g.K.Sink.taken c.args.out.now))
 
 pub loop-stage-init : goal.loop-stage-init
 loop-stage-init g c =
@@ -32,8 +32,9 @@ loop-stage-init g c =
       form = c.requires.form;
       place = c.requires.place;
       read = c.requires.lock;
-      so_far = λ told effect e. counted_at_start g c effect;
-      all = refl;
+      so_far = λ told effect e. subst (λ (x : Summary). Counted c.args.flags effect [] c.args.lock.now c.args.lock.now (g.W.Ground.history c.args.world.now) (g.W.Ground.history c.args.world.now) g.K.Sink.tells (g.K.Sink.taken c.args.out.now) (g.K.Sink.taken c.args.out.now) x) (sym c.none-summary.ensures.exact) (counted_none c.args.flags effect c.args.lock.now (g.W.Ground.history c.args.world.now) g.K.Sink.tells (g.K.Sink.taken c.args.out.now));
+      all = ap total c.none-summary.ensures.exact;
+      front = refl;
       lines = λ told. told_none (g.K.Sink.taken c.args.out.now);
       idle = λ told effect e nothing. (refl, refl);
       world_counted = search rules;
@@ -56,11 +57,11 @@ take_turn-requires-clause-ordered g c =
 
 -- ---- a turn is refused
 
-abbrev refused_spot : (g : Over) → goal.After-from_residual g → Effect → Spot
+abbrev refused_spot : (g : Over) → After-from_residual g → Effect → Spot
 refused_spot g c =
     spot c.args.flags c.args.stages.now c.loop-stage.stage-index c.stage-item.result c.args.lock.now c.loop-stage.lock (g.W.Ground.history c.args.world.now) (g.W.Ground.history c.loop-stage.world) g.K.Sink.tells (g.K.Sink.taken c.args.out.now) (g.K.Sink.taken c.loop-stage.out)
 
-refused : (g : Over) (c : goal.After-from_residual g) → IsTrue g.W.Ground.tells → (effect : Effect) → (g.W.Ground.history c.args.world.now).present.aside.fixed.effect ≡ Some effect → IsHalt (refused_spot g c effect) c.in_err-take_turn.field-0.0 (g.W.Ground.history c.take_turn.new.world) (g.K.Sink.taken c.take_turn.new.out)
+refused : (g : Over) (c : After-from_residual g) → IsTrue g.W.Ground.tells → (effect : Effect) → (g.W.Ground.history c.args.world.now).present.aside.fixed.effect ≡ Some effect → IsHalt (refused_spot g c effect) c.in_err-choice.field-0.0 (g.W.Ground.history c.take_turn.new.world) (g.K.Sink.taken c.take_turn.new.out)
 refused g c told effect e =
     let all = c.args.stages.now in
     let i = c.loop-stage.stage-index in
@@ -72,14 +73,14 @@ refused g c told effect e =
     let before = g.K.Sink.taken c.args.out.now in
     let mid = g.K.Sink.taken c.loop-stage.out in
     let inv = c.loop-stage.invariant in
-    let of = c.in_err-take_turn.ensures in
+    let of = c.in_err-choice.ensures in
     let so = (inv.so_far told effect e).0 in
     let at = spot_at c.args.flags all i s old lock a k g.K.Sink.tells before mid effect c.loop-stage-test.true c.stage-item.is c.requires.planned (g.met.W.ReadFiles.stands c.args.world.now told).0 c.requires.no_restore so in
     let known = known_at c.args.flags all i s old lock a k g.K.Sink.tells before mid effect so e in
-    halt_at (refused_spot g c effect) c.in_err-take_turn.field-0.0 c.take_turn.new.lock (g.W.Ground.history c.take_turn.new.world) (g.K.Sink.taken c.take_turn.new.out) at known (of.turned told) (λ t. of.report told t) (of.lines_first told)
+    halt_at (refused_spot g c effect) c.in_err-choice.field-0.0 c.take_turn.new.lock (g.W.Ground.history c.take_turn.new.world) (g.K.Sink.taken c.take_turn.new.out) at known (of.turned told) (λ t. of.report told t) (of.lines_first told)
 
-pub returns-in_err-take_turn-clause-answer : goal.returns-in_err-take_turn-clause-answer
-returns-in_err-take_turn-clause-answer g c told =
+pub returns-in_err-choice-clause-answer : goal.returns-in_err-choice-clause-answer
+returns-in_err-choice-clause-answer g c told =
     let all = c.args.stages.now in
     let a = g.W.Ground.history c.args.world.now in
     let n = g.W.Ground.history c.take_turn.new.world in
@@ -87,13 +88,13 @@ returns-in_err-take_turn-clause-answer g c told =
     let flags = c.args.flags in
     let before = g.K.Sink.taken c.args.out.now in
     let taken = g.K.Sink.taken c.take_turn.new.out in
-    let fault = c.in_err-take_turn.field-0.0 in
+    let fault = c.in_err-choice.field-0.0 in
     let x = refused_spot g c in
     let exit = err_from_is_err_and c.from_residual.result c.from_residual.ensures.1 in
     rw (exit.1, exit.2) (if_some a.present.aside.fixed.effect (λ effect. AreReliable effect all old a.present n.present → IsAnswerAt (tree_of n) (Some fault) (fault_of flags effect all (standing_of (tree_of a) old))) (λ effect e. λ safe. halt_answer (x effect) fault n taken (refused g c told effect e) safe))
 
-pub returns-in_err-take_turn-clause-ran : goal.returns-in_err-take_turn-clause-ran
-returns-in_err-take_turn-clause-ran g c told =
+pub returns-in_err-choice-clause-ran : goal.returns-in_err-choice-clause-ran
+returns-in_err-choice-clause-ran g c told =
     let all = c.args.stages.now in
     let a = g.W.Ground.history c.args.world.now in
     let n = g.W.Ground.history c.take_turn.new.world in
@@ -101,13 +102,13 @@ returns-in_err-take_turn-clause-ran g c told =
     let flags = c.args.flags in
     let before = g.K.Sink.taken c.args.out.now in
     let taken = g.K.Sink.taken c.take_turn.new.out in
-    let fault = c.in_err-take_turn.field-0.0 in
+    let fault = c.in_err-choice.field-0.0 in
     let x = refused_spot g c in
     let exit = err_from_is_err_and c.from_residual.result c.from_residual.ensures.1 in
     rw (exit.1, exit.2) (if_some a.present.aside.fixed.effect (λ effect. AreReliable effect all old a.present n.present → JobsGain (tree_of n) (Some fault) (jobs_of a) (jobs (due flags effect all (standing_of (tree_of a) old))) (jobs_of n)) (λ effect e. λ safe. halt_ran (x effect) fault n taken (refused g c told effect e) safe))
 
-pub returns-in_err-take_turn-clause-report : goal.returns-in_err-take_turn-clause-report
-returns-in_err-take_turn-clause-report g c lines told =
+pub returns-in_err-choice-clause-report : goal.returns-in_err-choice-clause-report
+returns-in_err-choice-clause-report g c lines told =
     let all = c.args.stages.now in
     let a = g.W.Ground.history c.args.world.now in
     let n = g.W.Ground.history c.take_turn.new.world in
@@ -115,13 +116,13 @@ returns-in_err-take_turn-clause-report g c lines told =
     let flags = c.args.flags in
     let before = g.K.Sink.taken c.args.out.now in
     let taken = g.K.Sink.taken c.take_turn.new.out in
-    let fault = c.in_err-take_turn.field-0.0 in
+    let fault = c.in_err-choice.field-0.0 in
     let x = refused_spot g c in
     let exit = err_from_is_err_and c.from_residual.result c.from_residual.ensures.1 in
     rw (exit.1, exit.2) (if_some a.present.aside.fixed.effect (λ effect. AreReliable effect all old a.present n.present → GainsAt (tree_of n) (Some fault) before (report (due flags effect all (standing_of (tree_of a) old))) taken) (λ effect e. λ safe. halt_report (x effect) fault n taken (refused g c told effect e) safe lines))
 
-pub returns-in_err-take_turn-clause-halted : goal.returns-in_err-take_turn-clause-halted
-returns-in_err-take_turn-clause-halted g c =
+pub returns-in_err-choice-clause-halted : goal.returns-in_err-choice-clause-halted
+returns-in_err-choice-clause-halted g c =
     let all = c.args.stages.now in
     let a = g.W.Ground.history c.args.world.now in
     let n = g.W.Ground.history c.take_turn.new.world in
@@ -129,13 +130,13 @@ returns-in_err-take_turn-clause-halted g c =
     let flags = c.args.flags in
     let before = g.K.Sink.taken c.args.out.now in
     let taken = g.K.Sink.taken c.take_turn.new.out in
-    let fault = c.in_err-take_turn.field-0.0 in
+    let fault = c.in_err-choice.field-0.0 in
     let x = refused_spot g c in
     let exit = err_from_is_err_and c.from_residual.result c.from_residual.ensures.1 in
     rw (exit.1, exit.2) (λ told. if_some a.present.aside.fixed.effect (λ effect. AreHalted flags effect all old fault a.present n.present) (λ effect e. halt_left (x effect) fault n taken (refused g c told effect e)))
 
-pub returns-in_err-take_turn-clause-moments : goal.returns-in_err-take_turn-clause-moments
-returns-in_err-take_turn-clause-moments g c told =
+pub returns-in_err-choice-clause-moments : goal.returns-in_err-choice-clause-moments
+returns-in_err-choice-clause-moments g c told =
     let all = c.args.stages.now in
     let a = g.W.Ground.history c.args.world.now in
     let n = g.W.Ground.history c.take_turn.new.world in
@@ -143,36 +144,36 @@ returns-in_err-take_turn-clause-moments g c told =
     let flags = c.args.flags in
     let before = g.K.Sink.taken c.args.out.now in
     let taken = g.K.Sink.taken c.take_turn.new.out in
-    let fault = c.in_err-take_turn.field-0.0 in
+    let fault = c.in_err-choice.field-0.0 in
     let x = refused_spot g c in
     let exit = err_from_is_err_and c.from_residual.result c.from_residual.ensures.1 in
     (if_some a.present.aside.fixed.effect (λ effect. Passes (InTurns flags effect all old a.present n.present) a n) (λ effect e. halt_moments (x effect) fault n taken (refused g c told effect e)))
 
-pub returns-in_err-take_turn-clause-lines : goal.returns-in_err-take_turn-clause-lines
-returns-in_err-take_turn-clause-lines g c told =
+pub returns-in_err-choice-clause-lines : goal.returns-in_err-choice-clause-lines
+returns-in_err-choice-clause-lines g c told =
     let all = c.args.stages.now in
     let i = c.loop-stage.stage-index in
     let s = c.stage-item.result in
     let before = g.K.Sink.taken c.args.out.now in
     let mid = g.K.Sink.taken c.loop-stage.out in
     let taken = g.K.Sink.taken c.take_turn.new.out in
-    let fault = c.in_err-take_turn.field-0.0 in
+    let fault = c.in_err-choice.field-0.0 in
     let cut = cut_at all i s c.loop-stage-test.true c.stage-item.is in
     let exit = err_from_is_err_and c.from_residual.result c.from_residual.ensures.1 in
-    let took = c.in_err-take_turn.ensures.front told in
+    let took = c.in_err-choice.ensures.front told in
     rw (exit.1, exit.2) (subst (λ (l : List Stage). IsReport l (Some fault) before taken) (sym cut) (told_halt (take i all) s took.0 (drop (i + 1) all) fault before mid taken (c.loop-stage.invariant.lines told) took.1))
 
-pub returns-in_err-take_turn-clause-told : goal.returns-in_err-take_turn-clause-told
-returns-in_err-take_turn-clause-told g c =
+pub returns-in_err-choice-clause-told : goal.returns-in_err-choice-clause-told
+returns-in_err-choice-clause-told g c =
     let all = c.args.stages.now in
     let i = c.loop-stage.stage-index in
     let s = c.stage-item.result in
     let cut = cut_at all i s c.loop-stage-test.true c.stage-item.is in
     let exit = err_from_is_err_and c.from_residual.result c.from_residual.ensures.1 in
-    rw (exit.1, exit.2) (record { stage = s; before = take i all; after = drop (i + 1) all; cut = cut; own = c.in_err-take_turn.ensures.told })
+    rw (exit.1, exit.2) (record { stage = s; before = take i all; after = drop (i + 1) all; cut = cut; own = c.in_err-choice.ensures.told })
 
-pub returns-in_err-take_turn-clause-untouched : goal.returns-in_err-take_turn-clause-untouched
-returns-in_err-take_turn-clause-untouched g c told =
+pub returns-in_err-choice-clause-untouched : goal.returns-in_err-choice-clause-untouched
+returns-in_err-choice-clause-untouched g c told =
     let all = c.args.stages.now in
     let i = c.loop-stage.stage-index in
     let s = c.stage-item.result in
@@ -206,8 +207,8 @@ loop-stage-preserved g c =
     let mid = g.K.Sink.taken c.loop-stage.out in
     let taken = g.K.Sink.taken c.take_turn.new.out in
     let inv = c.loop-stage.invariant in
-    let chosen = c.in_ok-take_turn.field-0 in
-    let of = c.in_ok-take_turn.ensures in
+    let chosen = c.in_ok-choice.choice in
+    let of = c.in_ok-choice.ensures in
     let more = front_at all i s within here in
     let x : Effect → Spot = spot flags all i s old lock a k tells before mid in
     let took : IsTrue g.W.Ground.tells → (effect : Effect) → a.present.aside.fixed.effect ≡ Some effect → Turned flags effect s chosen lock new None k n =
@@ -221,7 +222,9 @@ loop-stage-preserved g c =
       read = of.remembered;
       so_far = λ told effect e.
           let at = spot_at flags all i s old lock a k tells before mid effect within here c.requires.planned (g.met.W.ReadFiles.stands c.args.world.now told).0 c.requires.no_restore (inv.so_far told effect e).0 in
-          subst (λ (l : List Stage). SoFar flags effect l old new a n tells before taken) (sym more) (so_far_more (x effect) at n chosen new taken (took told effect e) of.lines);
+          subst (λ (l : List Stage). Counted flags effect l old new a n tells before taken c.count.new.self) (sym more) (counted_more (x effect) at n chosen new taken (took told effect e) of.lines c.loop-stage.summary c.count.new.self (spot_counted flags all i s old lock a k tells before mid effect within here c.requires.planned (g.met.W.ReadFiles.stands c.args.world.now told).0 c.requires.no_restore (inv.so_far told effect e).0 c.loop-stage.summary (inv.so_far told effect e).1) c.count.ensures.counted);
+      all = ap total c.count.ensures.counted ∙ total_more chosen c.loop-stage.summary ∙ ap (λ (m : ℕ). m + 1) inv.all;
+      front = ap length more ∙ length-append (take i all) (s ∷ []) ∙ ap (λ (m : ℕ). m + 1) inv.front;
       lines = λ told. subst (λ (l : List Stage). IsTold l before taken) (sym more) (told_more (take i all) s chosen before mid taken (inv.lines told) (of.lines told));
       idle = λ told effect e nothing. let idle = inv.idle told effect e nothing in absurd (idle_more flags effect all (take i all) s (drop (i + 1) all) old a k (cut_at all i s within here) idle.0 idle.1 nothing (seen_before flags effect s chosen lock new k n (took told effect e)));
       world_counted = search rules;
@@ -263,7 +266,8 @@ returns-clause-taken g c told =
     let flags = c.args.flags in
     let before = g.K.Sink.taken c.args.out.now in
     let taken = g.K.Sink.taken c.loop-stage.out in
-    if_some a.present.aside.fixed.effect (λ effect. AreTaken flags effect all old lock a.present n.present) (λ effect e. let so = (ended g c told effect e).so_far in record { ended = so.ended; its = so.its; turns = so.turns; ran = so.ran })
+    let summary = c.loop-stage.summary in
+    if_some a.present.aside.fixed.effect (λ effect. (turns : AreTaken flags effect all old lock a.present n.present) × (summary ≡ summary_of turns.ended)) (λ effect e. taken_of flags effect (take c.loop-stage.stage-index all) all old lock a n g.K.Sink.tells before taken summary (take_all c.loop-stage.stage-index all c.loop-stage-test.false) (c.loop-stage.invariant.so_far told effect e))
 
 pub returns-clause-answer : goal.returns-clause-answer
 returns-clause-answer g c told =
@@ -332,3 +336,10 @@ returns-clause-lines g c told =
     let before = g.K.Sink.taken c.args.out.now in
     let taken = g.K.Sink.taken c.loop-stage.out in
     told_all all before taken (subst (λ (l : List Stage). IsTold l before taken) (take_all i all c.loop-stage-test.false) (c.loop-stage.invariant.lines told))
+
+-- ---- counts
+
+pub returns-clause-counted : goal.returns-clause-counted
+returns-clause-counted g c =
+    let inv = c.loop-stage.invariant in
+    inv.all ∙ sym inv.front ∙ ap length (take_all c.loop-stage.stage-index c.args.stages.now c.loop-stage-test.false)

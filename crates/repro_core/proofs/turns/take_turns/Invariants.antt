@@ -1,4 +1,4 @@
-use Rattle.std.proofs.Common.{◌≡◌, [], take, Some, IsTrue}
+use Rattle.std.proofs.Common.{◌≡◌, [], length, take, Some, IsTrue}
 use Rattle.world_api.specs.Effect.{Effect}
 use Rattle.world_api.specs.History.{IsCaused}
 use Rattle.world_api.specs.Outside.{tree_of}
@@ -21,6 +21,7 @@ invariant-loop-stage g l = record {
   read : IsTrue g.W.Ground.tells → lock_of (tree_of (g.W.Ground.history l.world)) ≡ Some l.lock;
   so_far : IsTrue g.W.Ground.tells → (effect : Effect) → (g.W.Ground.history l.fn.world).present.aside.fixed.effect ≡ Some effect → (so : SoFar l.fn.flags effect (take l.stage-index l.stages) l.fn.lock l.lock (g.W.Ground.history l.fn.world) (g.W.Ground.history l.world) g.K.Sink.tells (g.K.Sink.taken l.fn.out) (g.K.Sink.taken l.out)) × (l.summary ≡ summary_of so.ended);
   all : total l.summary ≡ l.stage-index;
+  front : length (take l.stage-index l.stages) ≡ l.stage-index;
   lines : IsTrue g.K.Sink.tells → IsTold (take l.stage-index l.stages) (g.K.Sink.taken l.fn.out) (g.K.Sink.taken l.out);
   idle : IsTrue g.W.Ground.tells → (effect : Effect) → (g.W.Ground.history l.fn.world).present.aside.fixed.effect ≡ Some effect → due l.fn.flags effect l.stages (standing_of (tree_of (g.W.Ground.history l.fn.world)) l.fn.lock) ≡ [] → (take l.stage-index l.stages ≡ []) × (g.W.Ground.history l.world ≡ g.W.Ground.history l.fn.world);
   world_counted : IsCaused (g.W.Ground.faults l.fn.world) (g.W.Ground.faults l.world) ⊥;
