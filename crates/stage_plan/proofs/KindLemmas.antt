@@ -27,10 +27,10 @@ use Rattle.stage_graph.specs.Paths.{folder_of, needs, owners, owner_paths, outpu
 use Rattle.stage_graph.specs.Texts.{join_fault, text_fault, track_texts, out_texts, need_texts, outside_fault}
 use Rattle.stage_graph.specs.declared.owner.Owner.{Owner}
 use Rattle.stage_graph.specs.declared.track.TrackFile.{TrackFile}
-use Rattle.stage_plan.specs.Plan.{plan_kinds}
+use Rattle.stage_plan.specs.Plan.{made_kinds}
 
 abbrev Fits : Option Fault → Type 0
-Fits due = MayBe plan_kinds due
+Fits due = MayBe made_kinds due
 
 or_fits : (a b : Option Fault) → Fits a → Fits b → Fits (option_or a b)
 or_fits None b h k = k
@@ -139,15 +139,15 @@ graph_fits tracks vars ignores ss =
     (or_fits c (option_or d (option_or e None)) (clash_fits [] (owners ss tracks))
     (or_fits d (option_or e None) (made_fits vars ss) (or_fits e None (cycle_fits ss) tt))))
 
-pub plan_kind : (tracks : List TrackFile) (vars ignores : List Path) (ss : List Written) (fault : Fault) → graph_fault ss tracks vars ignores ≡ Some fault → MayBe plan_kinds (Some fault)
-plan_kind tracks vars ignores ss fault told = subst (MayBe plan_kinds) told (graph_fits tracks vars ignores ss)
+pub plan_kind : (tracks : List TrackFile) (vars ignores : List Path) (ss : List Written) (fault : Fault) → graph_fault ss tracks vars ignores ≡ Some fault → MayBe made_kinds (Some fault)
+plan_kind tracks vars ignores ss fault told = subst (MayBe made_kinds) told (graph_fits tracks vars ignores ss)
 
 -- want of memory is one of the plan's as well
-pub told_kind : (tracks : List TrackFile) (vars ignores : List Path) (ss : List Written) (fault : Fault) → (fault ≡ f.NoMemory) ⊎ (graph_fault ss tracks vars ignores ≡ Some fault) → MayBe plan_kinds (Some fault)
-told_kind tracks vars ignores ss fault (inl memory) = subst (λ (x : Fault). MayBe plan_kinds (Some x)) (sym memory) refl
+pub told_kind : (tracks : List TrackFile) (vars ignores : List Path) (ss : List Written) (fault : Fault) → (fault ≡ f.NoMemory) ⊎ (graph_fault ss tracks vars ignores ≡ Some fault) → MayBe made_kinds (Some fault)
+told_kind tracks vars ignores ss fault (inl memory) = subst (λ (x : Fault). MayBe made_kinds (Some x)) (sym memory) refl
 told_kind tracks vars ignores ss fault (inr told) = plan_kind tracks vars ignores ss fault told
 
 -- the exit of a step
-pub kinds_err : {T : Type 0} (r : Result T Fault) (y fault : Fault) → r ≡ Err y → y ≡ fault → MayBe plan_kinds (Some fault) → MayBe plan_kinds (fault_in r)
+pub kinds_err : {T : Type 0} (r : Result T Fault) (y fault : Fault) → r ≡ Err y → y ≡ fault → MayBe made_kinds (Some fault) → MayBe made_kinds (fault_in r)
 kinds_err {T} r y fault e same h =
-    subst (λ (o : Result T Fault). MayBe plan_kinds (fault_in o)) (sym e) (subst (λ (x : Fault). MayBe plan_kinds (Some x)) (sym same) h)
+    subst (λ (o : Result T Fault). MayBe made_kinds (fault_in o)) (sym e) (subst (λ (x : Fault). MayBe made_kinds (Some x)) (sym same) h)

@@ -11,3 +11,5 @@ pub mod UsableLemmas
 pub mod PlanLemmas
 pub mod TrackLemmas
 pub mod TrackedLemmas
+pub mod NumberedLemmas
+pub mod MadeLemmas

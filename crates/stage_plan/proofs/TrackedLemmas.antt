@@ -27,7 +27,7 @@ use Rattle.stage_graph.specs.declared.track.TrackFile.{TrackFile}
 use Rattle.repro_laws.specs.Headline.{IsApart}
 use Rattle.repro_laws.specs.Moments.{is_own}
 use Rattle.repro_laws.proofs.ListLemmas.{each_from, each_first, each_second, each_mapped}
-use Rattle.stage_plan.specs.declared.plan.Chosen.{Chosen}
+use Rattle.stage_plan.specs.declared.turns.Turns.{Turns}
 use Rattle.stage_plan.specs.declared.sources.Sources.{Sources}
 use Rattle.stage_plan.specs.Targets.{other_paths, chosen}
 use Rattle.stage_plan.specs.Plan.{all_outs, reads_at, is_track_for, chosen_tracks, plan_fault, var_path, plan_of}
@@ -53,13 +53,13 @@ chosen_each P [] ss tracks h = h
 chosen_each P (target ∷ more) ss tracks h =
     each_kept (is_track_for (other_paths ss (target ∷ more)) (reads_at ss (chosen (target ∷ more) ss))) P tracks h
 
-pub tracks_kept : (P : TrackFile → Type 0) (targets : List (List ℕ)) (root : Node) (files : List VarFile) (sources : Sources) (plan : Chosen) → plan_of targets root files sources ≡ Ok plan →
+pub tracks_kept : (P : TrackFile → Type 0) (targets : List (List ℕ)) (root : Node) (files : List VarFile) (sources : Sources) (plan : Turns) → plan_of targets root files sources ≡ Ok plan →
     AllByRecursion P sources.tracks → AllByRecursion P plan.tracks
 tracks_kept P targets root files sources plan said h =
     let from = from_plan targets root files sources plan said in
-    subst (λ (p : Chosen). AllByRecursion P p.tracks) from.same (chosen_each P targets from.written sources.tracks h)
+    subst (λ (p : Turns). AllByRecursion P p.tracks) from.same (chosen_each P targets from.written sources.tracks h)
 
-pub tracks_each : (R : TrackFile → TrackFile → Type 0) (targets : List (List ℕ)) (root : Node) (files : List VarFile) (sources : Sources) (plan : Chosen) →
+pub tracks_each : (R : TrackFile → TrackFile → Type 0) (targets : List (List ℕ)) (root : Node) (files : List VarFile) (sources : Sources) (plan : Turns) →
     plan_of targets root files sources ≡ Ok plan →
     AllByRecursion (λ f. AllByRecursion (R f) sources.tracks) sources.tracks → AllByRecursion (λ f. AllByRecursion (R f) plan.tracks) plan.tracks
 tracks_each R targets root files sources plan said h =
@@ -69,7 +69,7 @@ tracks_each R targets root files sources plan said h =
 
 -- ---- all of them
 
-entry_paths : (dir : Path) (name : List ℕ) (outs : List PathEntry) → owner_paths (owners_of_entries dir name outs) ≡ map (λ e. path_from dir e.path) outs
+pub entry_paths : (dir : Path) (name : List ℕ) (outs : List PathEntry) → owner_paths (owners_of_entries dir name outs) ≡ map (λ e. path_from dir e.path) outs
 entry_paths dir name [] = refl
 entry_paths dir name (out ∷ outs) = ap (λ (ps : List Path). path_from dir out.path ∷ ps) (entry_paths dir name outs)
 
@@ -125,7 +125,7 @@ all_far sources vars ss h =
 
 -- ---- and so of those that were chosen
 
-pub plan_tracks : (targets : List (List ℕ)) (root : Node) (files : List VarFile) (sources : Sources) (plan : Chosen) → plan_of targets root files sources ≡ Ok plan →
+pub plan_tracks : (targets : List (List ℕ)) (root : Node) (files : List VarFile) (sources : Sources) (plan : Turns) → plan_of targets root files sources ≡ Ok plan →
     AreFar plan.tracks
 plan_tracks targets root files sources plan said =
     let from = from_plan targets root files sources plan said in

@@ -4,11 +4,16 @@
 --     turns_of ss           such stages, where these are all that have turns
 --     planned targets ss    those that the targets choose, in the order of their turns: all but the frozen ones
 --     schema_answer why     the answer to a refusal of the schema
+--     plan_made root files sources lock     the plan of a node, with these files of variables, track files and `.dvcignore` files
+--     chosen_by wide targets ss tracks      the numbers of what targets choose
+--     turns_at plan chosen                  what is to be done for such a choice
 --     chosen_in targets ss tracks           the chosen stages in the order of their turns, and the chosen track files
---     plan_of targets root files sources    what targets choose of a node, with these files of variables, track files and `.dvcignore` files
+--     plan_of targets root files sources    what targets choose of a node
 --     AreUsable stages      what is so of the stages of a plan
-use Rattle.std.specs.Prelude.{ℕ, Bool, not, ◌&&◌, ◌||◌, List, [], ◌∷◌, ◌++◌, map, length, slice_get, Option, Some, None, Result, Ok, Err, ◌==◌}
-use Rattle.std.specs.List.{AllByRecursion, list_any, filter, filter_map, flat_map}
+--     IsPlan plan           what is so of each plan
+use Rattle.std.specs.Prelude.{◌≡◌, ◌<◌, ◌^◌, ℕ, Bool, true, false, not, ◌&&◌, ◌||◌, List, [], ◌∷◌, ◌++◌, map, length, slice_get, if◌then◌else◌, Option, Some, None, Result, Ok, Err, ◌==◌}
+use Rattle.std.specs.Option.{option_map_or}
+use Rattle.std.specs.List.{AllByRecursion, range_with_len, list_any, filter, filter_map, flat_map}
 use Rattle.dvc_base.specs.Path.{Path, is_within, is_one, overlap}
 use Rattle.dvc_base.specs.Limits.{limit_of}
 use Rattle.dvc_base.specs.declared.limits.What.TheVariants as w
@@ -19,7 +24,9 @@ use Rattle.dvc_base.specs.declared.fault.FaultKind.TheVariants as k
 use Rattle.dvc_base.specs.declared.node.Node.{Node}
 use Rattle.world_api.specs.Effect.{path_from}
 use Rattle.world_api.specs.Layout.{yaml_path}
+use Rattle.lock_files.specs.Book.{Lock}
 use Rattle.lock_files.specs.Order.{in_order}
+use Rattle.path_index.specs.Overlap.{places}
 use Rattle.template_expand.specs.Expansion.{expansion}
 use Rattle.template_expand.specs.declared.files.VarFile.{VarFile}
 use Rattle.stage_schema.specs.declared.fault.ExpandFault.{ExpandFault}
@@ -27,7 +34,7 @@ use Rattle.stage_schema.specs.declared.fault.ExpandFault.TheVariants as e
 use Rattle.stage_schema.specs.declared.stage.Out.{Out as WrittenOut}
 use Rattle.stage_schema.specs.declared.stage.ParamWant.{ParamWant}
 use Rattle.stage_schema.specs.declared.stage.Stage.{Stage as Written}
-use Rattle.stage_graph.specs.Graph.{graph_fault}
+use Rattle.stage_graph.specs.Graph.{graph_of, graph_fault}
 use Rattle.stage_graph.specs.Paths.{stage_outs, needs, track_owners, owner_paths}
 use Rattle.stage_graph.specs.declared.track.TrackFile.{TrackFile}
 use Rattle.repro_laws.specs.Refusals.{first_fault}
@@ -39,8 +46,10 @@ use Rattle.repro_laws.specs.declared.stage.Dep.{Dep}
 use Rattle.repro_laws.specs.declared.stage.Out.{Out}
 use Rattle.repro_laws.specs.declared.stage.Tracked.{Tracked}
 use Rattle.repro_laws.specs.declared.stage.Stage.{Stage}
-use Rattle.stage_plan.specs.Targets.{other_paths, target_fault, chosen}
-use Rattle.stage_plan.specs.declared.plan.Chosen.{Chosen}
+use Rattle.stage_plan.specs.Targets.{other_paths, track_outs, is_at_any, owners, target_fault, chosen, chosen_alone}
+use Rattle.stage_plan.specs.declared.plan.Plan.{Plan}
+use Rattle.stage_plan.specs.declared.choose.Chosen.{Chosen}
+use Rattle.stage_plan.specs.declared.turns.Turns.{Turns}
 use Rattle.stage_plan.specs.declared.sources.Sources.{Sources}
 
 -- ---- its stages
@@ -126,8 +135,65 @@ chosen_tracks [] ss tracks = tracks
 chosen_tracks (target ∷ more) ss tracks =
     filter (is_track_for (other_paths ss (target ∷ more)) (reads_at ss (chosen (target ∷ more) ss))) tracks
 
-abbrev pub chosen_in : List (List ℕ) → List Written → List TrackFile → Chosen
+abbrev pub chosen_in : List (List ℕ) → List Written → List TrackFile → Turns
 chosen_in targets ss tracks = record { stages = planned targets ss; tracks = chosen_tracks targets ss tracks }
+
+-- ---- their numbers
+
+abbrev pub all_places : List TrackFile → List ℕ
+all_places tracks = range_with_len 0 (length tracks)
+
+abbrev pub track_numbers : List (List ℕ) → List Written → List TrackFile → List ℕ
+track_numbers [] ss tracks = all_places tracks
+track_numbers (target ∷ more) ss tracks =
+    places (is_track_for (other_paths ss (target ∷ more)) (reads_at ss (chosen (target ∷ more) ss))) tracks
+
+-- a track file is at one of the paths, or one of its outs is
+abbrev pub is_track_of : List Path → TrackFile → Bool
+is_track_of ps t = is_at_any ps t.file || list_any (is_at_any ps) (track_outs t)
+
+abbrev pub tracks_alone : List (List ℕ) → List Written → List TrackFile → List ℕ
+tracks_alone [] ss tracks = all_places tracks
+tracks_alone (target ∷ more) ss tracks = places (is_track_of (other_paths ss (target ∷ more))) tracks
+
+-- a wide choice takes the paths of owners as targets too, and what targets name alone
+abbrev pub chosen_by : Bool → List (List ℕ) → List Written → List TrackFile → Chosen
+chosen_by false targets ss tracks = record { stages = chosen targets ss; tracks = track_numbers targets ss tracks }
+chosen_by true targets ss tracks = record { stages = chosen_alone targets ss; tracks = tracks_alone targets ss tracks }
+
+abbrev pub owners_if : Bool → List Written → List TrackFile → List Path
+owners_if wide ss tracks = if wide then owners ss tracks else []
+
+abbrev pub choice_by : Option Fault → Chosen → Result Chosen Fault
+choice_by None chosen = Ok chosen
+choice_by (Some fault) chosen = Err fault
+
+abbrev pub choice_of : Bool → List (List ℕ) → Plan → Result Chosen Fault
+choice_of wide targets plan =
+    choice_by (target_fault (owners_if wide plan.stages plan.tracks) targets plan.stages plan.tracks) (chosen_by wide targets plan.stages plan.tracks)
+
+abbrev pub turns_at : Plan → Chosen → Turns
+turns_at plan chosen =
+    record { stages = planned_at plan.stages chosen.stages; tracks = filter_map (slice_get plan.tracks) chosen.tracks }
+
+-- ---- a single stage
+
+-- there is none past the last
+abbrev pub no_stage : Stage
+no_stage = record {
+  name = [];
+  commands = [];
+  dir = [];
+  looks = [];
+  deps = [];
+  params = [];
+  outs = [];
+  made = [];
+  always = false;
+}
+
+abbrev pub stage_at : Plan → ℕ → Stage
+stage_at plan n = option_map_or (stage_of (all_outs (with_turns plan.stages))) (slice_get plan.stages n) no_stage
 
 -- ---- which faults may come: of the graph, of what `dvc.yaml` says, of targets, and of all three
 
@@ -139,6 +205,9 @@ schema_kinds = k.NoVariable ∷ k.NotScalar ∷ k.NoFile ∷ k.NoKey ∷ k.TooLa
 
 abbrev pub target_kinds : List FaultKind
 target_kinds = k.NoMemory ∷ k.NoStage ∷ []
+
+abbrev pub made_kinds : List FaultKind
+made_kinds = schema_kinds ++ graph_kinds
 
 abbrev pub plan_kinds : List FaultKind
 plan_kinds = schema_kinds ++ (graph_kinds ++ target_kinds)
@@ -162,20 +231,36 @@ schema_answer e.NoMemory = f.NoMemory
 abbrev pub plan_fault : Sources → List Path → List Written → Option Fault
 plan_fault sources vars ss = graph_fault ss sources.tracks vars sources.ignores
 
--- a target that is none comes after all of these
-abbrev pub chosen_unless : Option Fault → List (List ℕ) → List Written → List TrackFile → Result Chosen Fault
-chosen_unless None targets ss tracks = Ok (chosen_in targets ss tracks)
-chosen_unless (Some fault) targets ss tracks = Err fault
+abbrev pub plan_with : List Written → List TrackFile → Lock → Plan
+plan_with ss tracks lock = record { stages = ss; tracks = tracks; lock = lock; graph = graph_of ss }
 
-abbrev pub plan_by : List (List ℕ) → Sources → List Path → Result (List Written) ExpandFault → Result Chosen Fault
-plan_by targets sources vars (Ok ss) =
-    chosen_unless (first_fault (plan_fault sources vars ss) (target_fault targets ss sources.tracks)) targets ss sources.tracks
-plan_by targets sources vars (Err why) = Err (schema_answer why)
+abbrev pub plan_unless : Option Fault → List Written → List TrackFile → Lock → Result Plan Fault
+plan_unless None ss tracks lock = Ok (plan_with ss tracks lock)
+plan_unless (Some fault) ss tracks lock = Err fault
+
+abbrev pub made_by : Sources → List Path → Lock → Result (List Written) ExpandFault → Result Plan Fault
+made_by sources vars lock (Ok ss) = plan_unless (plan_fault sources vars ss) ss sources.tracks lock
+made_by sources vars lock (Err why) = Err (schema_answer why)
 
 abbrev pub var_path : VarFile → Path
 var_path v = v.file
 
-unfoldable pub plan_of : List (List ℕ) → Node → List VarFile → Sources → Result Chosen Fault
+unfoldable pub plan_made : Node → List VarFile → Sources → Lock → Result Plan Fault
+plan_made root files sources lock = made_by sources (map var_path files) lock (expansion root files)
+
+-- ---- what targets choose of it
+
+-- a target that is none comes after all of these
+abbrev pub chosen_unless : Option Fault → List (List ℕ) → List Written → List TrackFile → Result Turns Fault
+chosen_unless None targets ss tracks = Ok (chosen_in targets ss tracks)
+chosen_unless (Some fault) targets ss tracks = Err fault
+
+abbrev pub plan_by : List (List ℕ) → Sources → List Path → Result (List Written) ExpandFault → Result Turns Fault
+plan_by targets sources vars (Ok ss) =
+    chosen_unless (first_fault (plan_fault sources vars ss) (target_fault [] targets ss sources.tracks)) targets ss sources.tracks
+plan_by targets sources vars (Err why) = Err (schema_answer why)
+
+unfoldable pub plan_of : List (List ℕ) → Node → List VarFile → Sources → Result Turns Fault
 plan_of targets root files sources = plan_by targets sources (map var_path files) (expansion root files)
 
 -- ---- what is so of a plan
@@ -183,3 +268,8 @@ plan_of targets root files sources = plan_by targets sources (map var_path files
 pub record AreUsable (stages : List Stage) : Type 0 where
   pub planned : IsPlanned is_own stages
   pub outside : AllByRecursion IsOutside stages
+
+pub record IsPlan (plan : Plan) : Type 0 where
+  pub graph : plan.graph ≡ graph_of plan.stages
+  pub few : length plan.stages < 2 ^ 32
+  pub few_tracks : length plan.tracks < 2 ^ 32

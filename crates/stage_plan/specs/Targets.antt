@@ -1,10 +1,12 @@
 -- Which stages are to have their turns, and the first target that is none.
 --     named ss target           the places of the stages that a target names: those of this name, or else those of the group
 --     other_paths ss targets    where the targets lead that name neither a stage nor a group, read as paths
---     target_fault targets ss tracks    the first target that names no stage, no group and no track file
+--     owners ss tracks          the paths that stages make and that track files record
+--     target_fault owners targets ss tracks    the first target that names no stage, no group, no track file and none of these owners
 --     chosen targets ss         in the order of their turns, the stages that targets name and all that are above them; all stages
 --                               where there is no target
-use Rattle.std.specs.Prelude.{ℕ, Bool, not, ◌&&◌, ◌||◌, ◌==◌, List, [], ◌∷◌, map, length, Option, option_map, bytes_eq, if◌then◌else◌}
+--     chosen_alone targets ss   in the same order, the stages that targets name, or of which they name an output, alone
+use Rattle.std.specs.Prelude.{ℕ, Bool, not, ◌&&◌, ◌||◌, ◌==◌, List, [], ◌∷◌, ◌++◌, map, length, Option, option_map, bytes_eq, if◌then◌else◌}
 use Rattle.std.specs.List.{list_any, filter, find, flat_map}
 use Rattle.dvc_base.specs.Path.{Path, is_one}
 use Rattle.dvc_base.specs.declared.fault.Fault.{Fault}
@@ -12,8 +14,9 @@ use Rattle.dvc_base.specs.declared.fault.Fault.TheVariants.{NoStage}
 use Rattle.world_api.specs.Effect.{path_from}
 use Rattle.path_index.specs.Overlap.{places}
 use Rattle.stage_order.specs.Brought.{brought}
-use Rattle.stage_order.specs.Order.{order}
+use Rattle.stage_order.specs.Order.{is_in, order}
 use Rattle.stage_graph.specs.Cycle.{all_above}
+use Rattle.stage_graph.specs.Paths.{stage_outs, track_owners, owner_paths}
 use Rattle.stage_graph.specs.declared.track.TrackFile.{TrackFile}
 use Rattle.stage_schema.specs.declared.stage.Stage.{Stage}
 
@@ -46,14 +49,39 @@ other_paths ss targets = map (path_from []) (filter (is_other ss) targets)
 abbrev pub is_track_at : List TrackFile → Path → Bool
 is_track_at tracks p = list_any (λ t. is_one t.file p) tracks
 
-abbrev pub is_lost : List Stage → List TrackFile → List ℕ → Bool
-is_lost ss tracks target = is_other ss target && not (is_track_at tracks (path_from [] target))
+-- ---- owners
 
-abbrev pub target_fault : List (List ℕ) → List Stage → List TrackFile → Option Fault
-target_fault targets ss tracks = option_map (λ target. NoStage target) (find (is_lost ss tracks) targets)
+abbrev pub is_at_any : List Path → Path → Bool
+is_at_any ps p = list_any (is_one p) ps
+
+abbrev pub track_outs : TrackFile → List Path
+track_outs t = owner_paths (track_owners t)
+
+abbrev pub owners : List Stage → List TrackFile → List Path
+owners ss tracks = flat_map stage_outs ss ++ flat_map track_outs tracks
+
+abbrev pub is_lost : List Path → List Stage → List TrackFile → List ℕ → Bool
+is_lost owned ss tracks target =
+    is_other ss target && not (is_track_at tracks (path_from [] target) || is_at_any owned (path_from [] target))
+
+abbrev pub target_fault : List Path → List (List ℕ) → List Stage → List TrackFile → Option Fault
+target_fault owned targets ss tracks = option_map (λ target. NoStage target) (find (is_lost owned ss tracks) targets)
 
 -- ---- chosen stages
 
 abbrev pub chosen : List (List ℕ) → List Stage → List ℕ
 chosen [] ss = order (all_above ss)
 chosen (target ∷ more) ss = brought (all_above ss) (flat_map (named ss) (target ∷ more)) (order (all_above ss))
+
+-- ---- stages alone
+
+-- an output of the stage is at one of the paths
+abbrev pub makes_any : List Path → Stage → Bool
+makes_any ps s = list_any (is_at_any ps) (stage_outs s)
+
+abbrev pub named_alone : List (List ℕ) → List Stage → List ℕ
+named_alone targets ss = flat_map (named ss) targets ++ places (makes_any (other_paths ss targets)) ss
+
+abbrev pub chosen_alone : List (List ℕ) → List Stage → List ℕ
+chosen_alone [] ss = order (all_above ss)
+chosen_alone (target ∷ more) ss = filter (is_in (named_alone (target ∷ more) ss)) (order (all_above ss))

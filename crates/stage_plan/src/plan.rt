@@ -1,54 +1,55 @@
-// The plan of a `dvc.yaml`: its stages in the order of their turns, or the first of its refusals.
+// The plan of a workspace: its stages and track files with the graph, or the first of its refusals.
 ghost use Rattle.std.specs.Prelude.{◌≡◌, ◌⊎◌, ◌<◌, ◌^◌, length, map, IfOk, Some};
 ghost use Rattle.dvc_base.specs.Answer.{fault_in};
 ghost use Rattle.dvc_base.specs.Fault.{MayBe};
 ghost use Rattle.dvc_base.specs.declared.fault.Fault.TheVariants.{NoMemory as Memory};
-ghost use Rattle.repro_laws.specs.Refusals.{first_fault};
-ghost use Rattle.stage_graph.specs.Graph.{graph_of};
-ghost use Rattle.stage_plan.specs.Plan.{schema_answer, plan_fault, chosen_unless, var_path, plan_of, schema_kinds, plan_kinds};
-ghost use Rattle.stage_plan.specs.Targets.{target_fault};
+ghost use Rattle.stage_plan.specs.Plan.{schema_answer, plan_fault, plan_unless, var_path, plan_made, schema_kinds, made_kinds, IsPlan};
 ghost use Rattle.workspace_files.specs.Read.{IsRead};
 
-use crate::planned::planned;
 use crate::sources::Sources;
-use crate::targets::{check_targets, chosen};
-use crate::tracks::chosen_tracks;
-use dvc_base::{Fault, NoMemory, Node, Plain, Rel, Rels, Text, What};
-use repro_laws::Stages;
-use stage_graph::{Graph, TrackFile, Tracks};
-use stage_schema::{ExpandFault, Stage as Written};
+use dvc_base::{Fault, NoMemory, Node, Plain, Rel, Rels, What};
+use lock_files::LockBook;
+use stage_graph::{Graph, Tracks};
+use stage_schema::{ExpandFault, Stages};
 use std::alloc::Global;
 use template_expand::{VarFile, expand};
 use world_api::yaml_path;
 
-/// What targets choose of a workspace.
+/// What a workspace says.
 #[derive(Drop)]
-pub struct Chosen {
-    /// The stages that have turns, in their order.
+pub struct Plan {
+    /// The stages, in the order in which `dvc.yaml` says them.
     pub stages: Stages,
-    /// The track files that are recorded before, in the order of their paths.
+    /// The track files, in the order of their paths.
     pub tracks: Tracks,
+    /// What is remembered of stages.
+    pub lock: LockBook,
+    /// The order of the stages, and which of them are above one.
+    pub graph: Graph,
 }
 
-/// The stages that the node of a `dvc.yaml` says, with these files of variables: those that the targets choose, in the order of
-/// their turns. No output may be in the way of a track, or of a file that the tool reads.
-///
-/// What the schema refuses comes first, then what the graph of stages refuses, and then a target that is none.
-#[tactic(auto, unfolding(crate::specs::Plan::plan_of))]
-pub fn plan_of(
-    alloc: Global,
-    root: &Node,
-    files: &[VarFile],
-    sources: &Sources,
-    targets: &[Text],
-) -> Result<Chosen, Fault>
-    requires few_tracks { length sources.now.tracks < 2 ^ 32 }
-    ensures plan { IsRead result (plan_of targets.now root.now files.now sources.now) }
-    ensures kinds { MayBe plan_kinds (fault_in result) }
-{
-    match expand(alloc, root, files) {
-        Ok(written) => plan_from(alloc, written.as_slice(), files, sources, targets),
-        Err(why) => Err(schema_answer(alloc, why)),
+impl Plan {
+    /// The plan of the stages that the node of a `dvc.yaml` says, with these files of variables. No output may be in the way of a
+    /// track, or of a file that the tool reads.
+    ///
+    /// What the schema refuses comes first, and then what the graph of stages refuses.
+    #[tactic(auto, unfolding(crate::specs::Plan::plan_made))]
+    pub fn make(
+        alloc: Global,
+        root: &Node,
+        files: &[VarFile],
+        sources: Sources,
+        lock: LockBook,
+    ) -> Result<Plan, Fault>
+        requires few_tracks { length sources.tracks < 2 ^ 32 }
+        ensures made { IsRead result (plan_made root.now files.now sources lock) }
+        ensures form { IfOk result IsPlan }
+        ensures kinds { MayBe made_kinds (fault_in result) }
+    {
+        match expand(alloc, root, files) {
+            Ok(stages) => plan_from(alloc, stages, files, sources, lock),
+            Err(why) => Err(schema_answer(alloc, why)),
+        }
     }
 }
 
@@ -79,20 +80,19 @@ pub fn schema_answer(alloc: Global, why: ExpandFault) -> Fault
 // The same from the stages as the schema reads them.
 fn plan_from(
     alloc: Global,
-    written: &[Written],
+    stages: Stages,
     files: &[VarFile],
-    sources: &Sources,
-    targets: &[Text],
-) -> Result<Chosen, Fault>
-    requires few { length written.now < 2 ^ 32 }
-    requires few_tracks { length sources.now.tracks < 2 ^ 32 }
-    ensures plan { IsRead result (chosen_unless
-        (first_fault (plan_fault sources.now (map var_path files.now) written.now)
-        (target_fault targets.now written.now sources.now.tracks)) targets.now written.now sources.now.tracks) }
-    ensures kinds { MayBe plan_kinds (fault_in result) }
+    sources: Sources,
+    lock: LockBook,
+) -> Result<Plan, Fault>
+    requires few { length stages < 2 ^ 32 }
+    requires few_tracks { length sources.tracks < 2 ^ 32 }
+    ensures made { IsRead result (plan_unless (plan_fault sources (map var_path files.now) stages) stages sources.tracks lock) }
+    ensures form { IfOk result IsPlan }
+    ensures kinds { MayBe made_kinds (fault_in result) }
 {
     let vars = var_paths(alloc, files)?;
-    plan_with(alloc, written, vars.as_slice(), sources, targets)
+    plan_with(alloc, stages, vars.as_slice(), sources, lock)
 }
 
 // The paths of files of variables.
@@ -108,46 +108,29 @@ fn var_paths(alloc: Global, files: &[VarFile]) -> Result<Rels, NoMemory>
 
 fn plan_with(
     alloc: Global,
-    written: &[Written],
+    stages: Stages,
     vars: &[Rel],
-    sources: &Sources,
-    targets: &[Text],
-) -> Result<Chosen, Fault>
-    requires few { length written.now < 2 ^ 32 }
-    requires few_tracks { length sources.now.tracks < 2 ^ 32 }
-    ensures plan { IsRead result (chosen_unless
-        (first_fault (plan_fault sources.now vars.now written.now)
-        (target_fault targets.now written.now sources.now.tracks)) targets.now written.now sources.now.tracks) }
-    ensures kinds { MayBe plan_kinds (fault_in result) }
+    sources: Sources,
+    lock: LockBook,
+) -> Result<Plan, Fault>
+    requires few { length stages < 2 ^ 32 }
+    requires few_tracks { length sources.tracks < 2 ^ 32 }
+    ensures made { IsRead result (plan_unless (plan_fault sources vars.now stages) stages sources.tracks lock) }
+    ensures form { IfOk result IsPlan }
+    ensures kinds { MayBe made_kinds (fault_in result) }
 {
     let graph = Graph::make(
         alloc,
-        written,
+        stages.as_slice(),
         sources.tracks.as_slice(),
         vars,
         sources.ignores.as_slice(),
     )?;
-    plan_in(alloc, written, &graph, sources.tracks.as_slice(), targets)
-}
-
-// Where the graph refuses nothing.
-fn plan_in(
-    alloc: Global,
-    written: &[Written],
-    graph: &Graph,
-    tracks: &[TrackFile],
-    targets: &[Text],
-) -> Result<Chosen, Fault>
-    requires few { length written.now < 2 ^ 32 }
-    requires graph { graph.now ≡ graph_of written.now }
-    ensures plan { IsRead result
-        (chosen_unless (target_fault targets.now written.now tracks.now) targets.now written.now tracks.now) }
-    ensures kinds { MayBe plan_kinds (fault_in result) }
-{
-    check_targets(alloc, written, tracks, targets)?;
-    let places = chosen(alloc, written, graph, targets)?;
-    Ok(Chosen {
-        stages: planned(alloc, written, places.as_slice())?,
-        tracks: chosen_tracks(alloc, written, places.as_slice(), tracks, targets)?,
+    let Sources { tracks, .. } = sources;
+    Ok(Plan {
+        stages,
+        tracks,
+        lock,
+        graph,
     })
 }

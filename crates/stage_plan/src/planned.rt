@@ -40,6 +40,17 @@ fn all_outs(alloc: Global, written: &[Written], order: &[u32]) -> Result<Rels, N
     Ok(paths)
 }
 
+/// The outputs of all of these stages that have turns.
+pub(crate) fn outs_of_all(alloc: Global, written: &[Written]) -> Result<Rels, NoMemory>
+    ensures exact { IfOk result (λ paths. paths ≡ all_outs (with_turns written.now)) }
+{
+    let mut paths = Rels::new(alloc);
+    for stage in written {
+        push_stage_outs(alloc, &mut paths, stage)?;
+    }
+    Ok(paths)
+}
+
 fn push_outs_at(
     alloc: Global,
     paths: &mut Rels,
@@ -64,7 +75,8 @@ fn push_stage_outs(alloc: Global, paths: &mut Rels, stage: &Written) -> Result<(
     push_outs(alloc, paths, &stage.dir, stage.outs.as_slice())
 }
 
-fn push_outs(
+/// The outputs, from the folder of their stage.
+pub(crate) fn push_outs(
     alloc: Global,
     paths: &mut Rels,
     dir: &Rel,
@@ -127,7 +139,8 @@ fn push_stage(
     Ok(())
 }
 
-fn stage_of(alloc: Global, stage: &Written, outs: &PathIndex) -> Result<Stage, NoMemory>
+/// A stage as its turn takes it; `outs` are the outputs of all that have turns.
+pub(crate) fn stage_of(alloc: Global, stage: &Written, outs: &PathIndex) -> Result<Stage, NoMemory>
     ensures exact { IfOk result (λ made. made ≡ stage_of outs.now stage.now) }
 {
     let looks = looks_of(alloc, stage, outs)?;

@@ -1,29 +1,35 @@
 // The stages that targets choose.
 ghost use Rattle.std.specs.Prelude.{◌≡◌, ◌<◌, ◌^◌, ◌++◌, length, IfOk, OnOk};
-ghost use Rattle.std.specs.List.{list_any, flat_map};
+ghost use Rattle.std.specs.List.{list_any, filter, flat_map};
 ghost use Rattle.dvc_base.specs.Answer.{IsAnswer, fault_in};
 ghost use Rattle.dvc_base.specs.Fault.{MayBe};
 ghost use Rattle.stage_graph.specs.Graph.{graph_of};
-ghost use Rattle.stage_plan.specs.Targets.{has_name, is_in_group, is_known, is_named_by, named, is_track_at, is_lost, target_fault, chosen};
+ghost use Rattle.stage_plan.specs.Targets.{has_name, is_in_group, is_known, is_named_by, named, is_track_at, is_lost, target_fault, chosen, makes_any, named_alone, chosen_alone};
+ghost use Rattle.path_index.specs.Overlap.{places};
+ghost use Rattle.stage_order.specs.Order.{is_in};
 ghost use Rattle.stage_plan.specs.Plan.{target_kinds};
 
-use dvc_base::{Fault, NoMemory, Numbers, Plain, Rel, Text, is_same};
+use crate::owners::{are_any_at, is_at_any};
+use crate::planned::push_outs;
+use crate::tracks::other_paths;
+use dvc_base::{Fault, NoMemory, Numbers, Plain, Rel, Rels, Text, is_same};
 use stage_graph::{Graph, TrackFile, path_from};
 use stage_schema::Stage as Written;
 use std::alloc::Global;
 
-/// Refuses the first target that is neither a stage's name nor a group's, and no track file's path.
+/// Refuses the first target that is neither a stage's name nor a group's, and neither a track file's path nor one of these owners.
 pub(crate) fn check_targets(
     alloc: Global,
     written: &[Written],
     tracks: &[TrackFile],
+    owned: &[Rel],
     targets: &[Text],
 ) -> Result<(), Fault>
-    ensures answer { IsAnswer (fault_in result) (target_fault targets.now written.now tracks.now) }
+    ensures answer { IsAnswer (fault_in result) (target_fault owned.now targets.now written.now tracks.now) }
     ensures kinds { MayBe target_kinds (fault_in result) }
 {
     for target in targets {
-        if is_lost(alloc, written, tracks, target)? {
+        if is_lost(alloc, written, tracks, owned, target)? {
             let name = target.copy(alloc)?;
             return Err(Fault::NoStage { name });
         }
@@ -86,22 +92,93 @@ fn push_named(places: &mut Numbers, written: &[Written], target: &Text) -> Resul
     Ok(())
 }
 
+/// The places of the stages that targets name, or of which they name an output, in this order and without what is above; all
+/// stages where there is no target.
+pub(crate) fn chosen_alone(
+    alloc: Global,
+    written: &[Written],
+    graph: &Graph,
+    targets: &[Text],
+) -> Result<Numbers, NoMemory>
+    requires few { length written.now < 2 ^ 32 }
+    requires graph { graph.now ≡ graph_of written.now }
+    ensures exact { IfOk result (λ places. places ≡ chosen_alone targets.now written.now) }
+{
+    match targets {
+        [] => copied(alloc, graph.order()),
+        [_, ..] => {
+            let named = named_alone(alloc, written, targets)?;
+            among(alloc, graph.order(), named.as_slice())
+        }
+    }
+}
+
+fn named_alone(alloc: Global, written: &[Written], targets: &[Text]) -> Result<Numbers, NoMemory>
+    requires few { length written.now < 2 ^ 32 }
+    ensures exact { IfOk result (λ found. found ≡ named_alone targets.now written.now) }
+{
+    let paths = other_paths(alloc, written, targets)?;
+    let mut found = all_named(alloc, written, targets)?;
+    push_makers(alloc, &mut found, written, paths.as_slice())?;
+    Ok(found)
+}
+
+// The stages with an output at one of the paths.
+fn push_makers(
+    alloc: Global,
+    found: &mut Numbers,
+    written: &[Written],
+    paths: &[Rel],
+) -> Result<(), NoMemory>
+    requires few { length written.now < 2 ^ 32 }
+    ensures ok { OnOk result (found.new ≡ found.old ++ places (makes_any paths.now) written.now) }
+{
+    for place in 0..written.len() {
+        if makes_any(alloc, &written[place], paths)? {
+            found.push(place as u32)?;
+        }
+    }
+    Ok(())
+}
+
+fn makes_any(alloc: Global, stage: &Written, paths: &[Rel]) -> Result<bool, NoMemory>
+    ensures exact { IfOk result (λ makes. makes ≡ makes_any paths.now stage.now) }
+{
+    let mut made = Rels::new(alloc);
+    push_outs(alloc, &mut made, &stage.dir, stage.outs.as_slice())?;
+    Ok(are_any_at(paths, made.as_slice()))
+}
+
+// Those of the numbers that are named.
+fn among(alloc: Global, numbers: &[u32], named: &[u32]) -> Result<Numbers, NoMemory>
+    ensures exact { IfOk result (λ found. found ≡ filter (is_in named.now) numbers.now) }
+{
+    let mut found = Numbers::new(alloc);
+    for number in numbers {
+        if named.contains(number) {
+            found.push(*number)?;
+        }
+    }
+    Ok(found)
+}
+
 // ---- one target
 
-// Whether a target names no stage, no group and no track file.
+// Whether a target names no stage, no group, no track file and no owner.
 fn is_lost(
     alloc: Global,
     written: &[Written],
     tracks: &[TrackFile],
+    owned: &[Rel],
     target: &Text,
 ) -> Result<bool, NoMemory>
-    ensures exact { IfOk result (λ lost. lost ≡ is_lost written.now tracks.now target.now) }
+    ensures exact { IfOk result (λ lost. lost ≡ is_lost owned.now written.now tracks.now target.now) }
 {
     if is_known(written, target) {
         return Ok(false);
     }
     let path = path_from(alloc, &Rel::root(alloc), target.as_str())?;
-    Ok(!is_track_at(tracks, &path))
+    Ok(!(is_track_at(tracks, &path) || is_at_any(owned, &path)))
 }
 
 fn is_track_at(tracks: &[TrackFile], path: &Rel) -> bool

@@ -1,81 +1,116 @@
 // The track files that targets choose.
-ghost use Rattle.std.specs.Prelude.{◌≡◌, [], ◌∷◌, ◌++◌, map, IfOk, OnOk};
-ghost use Rattle.std.specs.List.{list_any, filter};
-ghost use Rattle.dvc_base.specs.Path.{is_one, overlap};
+ghost use Rattle.std.specs.Prelude.{◌≡◌, ◌<◌, ◌^◌, [], ◌∷◌, ◌++◌, length, map, IfOk, OnOk};
+ghost use Rattle.std.specs.List.{list_any};
+ghost use Rattle.dvc_base.specs.Path.{overlap};
+ghost use Rattle.path_index.specs.Overlap.{places};
 ghost use Rattle.world_api.specs.Effect.{path_from};
 ghost use Rattle.stage_graph.specs.Paths.{needs};
 ghost use Rattle.stage_plan.specs.Targets.{other_paths, chosen};
-ghost use Rattle.stage_plan.specs.Plan.{reads_at, feeds, is_track_for, chosen_tracks};
+ghost use Rattle.stage_plan.specs.Plan.{reads_at, feeds, is_track_for, all_places, track_numbers, is_track_of, tracks_alone};
 
+use crate::owners::{are_any_at, is_at_any, push_track};
 use crate::targets::is_known;
-use dvc_base::{NoMemory, Plain, Rel, Rels, Text, is_same};
+use dvc_base::{NoMemory, Numbers, Rel, Rels, Text};
 use lock_files::PathEntry;
 use path_index::PathIndex;
-use stage_graph::{TrackFile, Tracks, folder_of, path_from};
+use stage_graph::{TrackFile, folder_of, path_from};
 use stage_schema::{ParamWant, Stage as Written};
 use std::alloc::Global;
 
-/// The track files that targets name, and those of what one of the stages at these places reads; all of them where there is no
-/// target.
-pub(crate) fn chosen_tracks(
+/// The places of the track files that targets name, and of those of what one of the stages at these places reads; all of them
+/// where there is no target.
+pub(crate) fn track_numbers(
     alloc: Global,
     written: &[Written],
     places: &[u32],
     tracks: &[TrackFile],
     targets: &[Text],
-) -> Result<Tracks, NoMemory>
+) -> Result<Numbers, NoMemory>
+    requires few { length tracks.now < 2 ^ 32 }
     requires places { places.now ≡ chosen targets.now written.now }
-    ensures exact { IfOk result (λ found. found ≡ chosen_tracks targets.now written.now tracks.now) }
+    ensures exact { IfOk result (λ found. found ≡ track_numbers targets.now written.now tracks.now) }
 {
     match targets {
-        [] => copied(alloc, tracks),
+        [] => all_places(alloc, tracks),
         [_, ..] => {
             let named = other_paths(alloc, written, targets)?;
             let reads = PathIndex::of(alloc, reads_at(alloc, written, places)?)?;
-            tracks_for(alloc, tracks, named.as_slice(), &reads)
+            places_for(alloc, tracks, named.as_slice(), &reads)
         }
     }
 }
 
-fn copied(alloc: Global, tracks: &[TrackFile]) -> Result<Tracks, NoMemory>
-    ensures exact { IfOk result (λ copies. copies ≡ tracks.now) }
+/// The places of the track files that targets name, or of which they name what is recorded; all of them where there is no target.
+pub(crate) fn tracks_alone(
+    alloc: Global,
+    written: &[Written],
+    tracks: &[TrackFile],
+    targets: &[Text],
+) -> Result<Numbers, NoMemory>
+    requires few { length tracks.now < 2 ^ 32 }
+    ensures exact { IfOk result (λ found. found ≡ tracks_alone targets.now written.now tracks.now) }
 {
-    let mut copies = Tracks::new(alloc);
-    for track in tracks {
-        copies.push(track.copy(alloc)?)?;
+    match targets {
+        [] => all_places(alloc, tracks),
+        [_, ..] => {
+            let paths = other_paths(alloc, written, targets)?;
+            places_of(alloc, tracks, paths.as_slice())
+        }
     }
-    Ok(copies)
 }
 
-fn tracks_for(
-    alloc: Global,
-    tracks: &[TrackFile],
-    named: &[Rel],
-    reads: &PathIndex,
-) -> Result<Tracks, NoMemory>
-    ensures exact { IfOk result (λ found. found ≡ filter (is_track_for named.now reads.now) tracks.now) }
+fn all_places(alloc: Global, tracks: &[TrackFile]) -> Result<Numbers, NoMemory>
+    requires few { length tracks.now < 2 ^ 32 }
+    ensures exact { IfOk result (λ found. found ≡ all_places tracks.now) }
 {
-    let mut found = Tracks::new(alloc);
-    for track in tracks {
-        push_if(alloc, &mut found, track, named, reads)?;
+    let mut found = Numbers::new(alloc);
+    for place in 0..tracks.len() {
+        found.push(place as u32)?;
     }
     Ok(found)
 }
 
-fn push_if(
+fn places_for(
     alloc: Global,
-    found: &mut Tracks,
-    track: &TrackFile,
+    tracks: &[TrackFile],
     named: &[Rel],
     reads: &PathIndex,
-) -> Result<(), NoMemory>
-    ensures ok { OnOk result
-        (found.new ≡ found.old ++ filter (is_track_for named.now reads.now) (track.now ∷ [])) }
+) -> Result<Numbers, NoMemory>
+    requires few { length tracks.now < 2 ^ 32 }
+    ensures exact { IfOk result (λ found. found ≡ places (is_track_for named.now reads.now) tracks.now) }
 {
-    if is_track_for(alloc, track, named, reads)? {
-        found.push(track.copy(alloc)?)?;
+    let mut found = Numbers::new(alloc);
+    for place in 0..tracks.len() {
+        if is_track_for(alloc, &tracks[place], named, reads)? {
+            found.push(place as u32)?;
+        }
     }
-    Ok(())
+    Ok(found)
+}
+
+fn places_of(alloc: Global, tracks: &[TrackFile], paths: &[Rel]) -> Result<Numbers, NoMemory>
+    requires few { length tracks.now < 2 ^ 32 }
+    ensures exact { IfOk result (λ found. found ≡ places (is_track_of paths.now) tracks.now) }
+{
+    let mut found = Numbers::new(alloc);
+    for place in 0..tracks.len() {
+        if is_track_of(alloc, &tracks[place], paths)? {
+            found.push(place as u32)?;
+        }
+    }
+    Ok(found)
+}
+
+// Whether a track file is at one of the paths, or what it records is.
+fn is_track_of(alloc: Global, track: &TrackFile, paths: &[Rel]) -> Result<bool, NoMemory>
+    ensures exact { IfOk result (λ found. found ≡ is_track_of paths.now track.now) }
+{
+    if is_at_any(paths, &track.file) {
+        return Ok(true);
+    }
+    let mut outs = Rels::new(alloc);
+    push_track(alloc, &mut outs, track)?;
+    Ok(are_any_at(paths, outs.as_slice()))
 }
 
 fn is_track_for(
@@ -86,16 +121,10 @@ fn is_track_for(
 ) -> Result<bool, NoMemory>
     ensures exact { IfOk result (λ found. found ≡ is_track_for named.now reads.now track.now) }
 {
-    if is_named(track, named) {
+    if is_at_any(named, &track.file) {
         return Ok(true);
     }
     feeds(alloc, track, reads)
-}
-
-fn is_named(track: &TrackFile, named: &[Rel]) -> bool
-    ensures exact { result ≡ list_any (is_one track.now.file) named.now }
-{
-    named.iter().any(|path| is_same(&track.file, path))
 }
 
 // Whether an out of the track file overlaps something that is read.
@@ -132,8 +161,12 @@ fn is_read(reads: &PathIndex, path: &Rel) -> bool
 
 // ---- paths
 
-// Where the targets lead that name neither a stage nor a group.
-fn other_paths(alloc: Global, written: &[Written], targets: &[Text]) -> Result<Rels, NoMemory>
+/// Where the targets lead that name neither a stage nor a group.
+pub(crate) fn other_paths(
+    alloc: Global,
+    written: &[Written],
+    targets: &[Text],
+) -> Result<Rels, NoMemory>
     ensures exact { IfOk result (λ paths. paths ≡ other_paths written.now targets.now) }
 {
     let mut paths = Rels::new(alloc);

@@ -4,4 +4,4 @@ use Rattle.stage_plan.proofs.targets.check_targets.Given as goal
 
 -- the first that is none is among those that are left
 abbrev pub invariant-loop-target : goal.invariant-loop-target
-invariant-loop-target l = target_fault l.targets l.written l.tracks ≡ target_fault (drop l.target-index l.targets) l.written l.tracks
+invariant-loop-target l = target_fault l.owned l.targets l.written l.tracks ≡ target_fault l.owned (drop l.target-index l.targets) l.written l.tracks

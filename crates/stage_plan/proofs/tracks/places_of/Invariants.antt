@@ -1,0 +1,8 @@
+use Rattle.std.proofs.Common.{◌≡◌, ◌++◌, drop}
+use Rattle.path_index.specs.Overlap.{places, places_from}
+use Rattle.stage_plan.specs.Plan.{is_track_of}
+use Rattle.stage_plan.proofs.tracks.places_of.Given as goal
+
+-- the places so far, and those that are left
+abbrev pub invariant-loop-place : goal.invariant-loop-place
+invariant-loop-place l = places (is_track_of l.paths) l.tracks ≡ l.found ++ places_from (is_track_of l.paths) l.place (drop l.place l.tracks)
