@@ -1,6 +1,7 @@
 -- The record of track files leaves the lock as it is, and one that can be written.
 --     records_remember, records_place
-use Rattle.std.proofs.Common.{◌≡◌, ℕ, true, false, List, [], ◌∷◌, Some, refl, sym, ap, ◌∙◌, inl, inr}
+--     records_itself                     before anything is recorded
+use Rattle.std.proofs.Common.{◌≡◌, ◌⊎◌, ◌||◌, ℕ, true, false, List, [], ◌∷◌, Some, refl, sym, ap, ◌∙◌, inl, inr}
 use Rattle.std.specs.List.{AllByRecursion}
 use Rattle.std.proofs.lemmas.Bool.{false≢true, or_from, false_from_ne_true}
 use Rattle.dvc_base.specs.Path.{under}
@@ -8,14 +9,15 @@ use Rattle.world_api.specs.Tree.{Tree, folder, file, item_at}
 use Rattle.world_api.specs.Calls.{parent}
 use Rattle.world_api.specs.History.{Moment}
 use Rattle.world_api.specs.Layout.{dvc_path, tmp_path, lock_path}
-use Rattle.world_api.specs.Writes.{IsMade, IsNoFileAt, CanWrite}
+use Rattle.world_api.specs.Writes.{IsMade, IsNoFileAt, IsSameUnder, CanWrite}
+use Rattle.world_api.proofs.HistoryLemmas.{keeps_itself}
 use Rattle.object_cache.specs.Store.{is_cache_folder}
 use Rattle.stage_graph.specs.declared.track.TrackFile.{TrackFile}
 use Rattle.repro_laws.specs.Headline.{IsApart}
 use Rattle.repro_laws.specs.Moments.{is_own}
 use Rattle.repro_laws.specs.Sound.{lock_by, lock_of}
 use Rattle.repro_core.specs.Steps.{in_stored}
-use Rattle.track_record.specs.Records.{in_files, InRecords}
+use Rattle.track_record.specs.Records.{in_files, IsPublished, InRecords}
 
 lock_own : is_own lock_path ≡ true
 unfolding lock_path dvc_path
@@ -62,3 +64,18 @@ records_place fs m n apart h place =
       room = record { above = root_above_lock n.tree; no_folder = λ e. room.no_folder (sym (records_lock fs m n apart h) ∙ e) };
       no_file = no_file_then m n (h.folders dvc_path dvc_is_folder) place.no_file;
     }
+
+-- ---- nothing is recorded
+
+pub records_itself : (fs : List TrackFile) (m : Moment) → InRecords fs m m
+records_itself fs m = record {
+  files = each fs;
+  folders = λ p cache. inl (record { item = refl; loose = refl });
+  places = λ name. inl (record { items = λ p below. refl; loose = λ p below. refl });
+  objects = λ name bytes e. e;
+  others = keeps_itself (λ p. in_files fs p || in_stored p) m;
+}
+  where
+    each : (fs : List TrackFile) → AllByRecursion (λ f. IsSameUnder f.file m m ⊎ IsPublished m.tree f m) fs
+    each [] = tt
+    each (f ∷ fs) = (inl (record { items = λ p below. refl; loose = λ p below. refl }), each fs)

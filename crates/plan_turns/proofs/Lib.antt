@@ -1,2 +1,3 @@
-mod KeptLemmas
+pub mod KeptLemmas
 pub mod TakesLemmas
+pub mod ShortLemmas

@@ -1,10 +1,11 @@
 -- What the turns of a plan do: its track files are recorded, and then the chosen stages have their turns.
 --     CanTurn turns lock         what may be done of a plan, in every tree
+--     CanTurnAlone s             the same of the turn of a single stage
 --     IsReady turns lock t       what a tree has to be for it
 --     HasRecorded                what the record of the track files does
 --     HasTaken                   what the turns of the stages do, where the effect of commands is told
 --     Takes                      the track files couldn't be recorded, or they are and then come the turns
-use Rattle.std.specs.Prelude.{◌≡◌, ◌⊎◌, ◌<◌, ◌^◌, ◌++◌, ℕ, Bool, List, [], length, Option, Some, None, Result, Err, IfOk, IfErr, IfSome, OnOk, IsTrue}
+use Rattle.std.specs.Prelude.{◌≡◌, ◌⊎◌, ◌<◌, ◌^◌, ◌++◌, ℕ, Bool, true, List, [], ◌∷◌, length, Option, Some, None, Result, Err, IfOk, IfErr, IfSome, OnOk, IsTrue}
 use Rattle.dvc_base.specs.Answer.{fault_in}
 use Rattle.dvc_base.specs.declared.fault.Fault.{Fault}
 use Rattle.dvc_base.specs.declared.fault.FaultKind.{FaultKind}
@@ -17,9 +18,10 @@ use Rattle.world_api.specs.Writes.{CanWrite}
 use Rattle.lock_files.specs.Book.{Lock}
 use Rattle.lock_files.specs.Form.{IsBook}
 use Rattle.stage_graph.specs.declared.track.TrackFile.{TrackFile}
+use Rattle.repro_laws.specs.Stage.{IsStage}
 use Rattle.repro_laws.specs.Due.{standing_of, due, fault_of, report, jobs}
 use Rattle.repro_laws.specs.Turns.{state}
-use Rattle.repro_laws.specs.Headline.{LeavesAnew}
+use Rattle.repro_laws.specs.Headline.{is_ordered, IsKept, LeavesAnew}
 use Rattle.repro_laws.specs.Moments.{is_own, InTurns}
 use Rattle.repro_laws.specs.Sound.{lock_of, AreReliable, IsAnswerAt, GainsAt, AreHalted}
 use Rattle.repro_laws.specs.declared.stage.Stage.{Stage}
@@ -29,7 +31,7 @@ use Rattle.repro_core.specs.Summaries.{summary_of}
 use Rattle.repro_core.specs.Turning.{JobsGain, AreTaken}
 use Rattle.repro_core.specs.declared.summary.Summary.{Summary}
 use Rattle.stage_plan.specs.Plan.{AreUsable}
-use Rattle.stage_plan.specs.declared.plan.Turns.{Turns}
+use Rattle.stage_plan.specs.declared.turns.Turns.{Turns}
 use Rattle.track_record.specs.Records.{AreTracked, AreReady, InRecords, AreRecorded, source_kinds}
 use Rattle.track_record.specs.Sources.{tracks_fault}
 
@@ -40,6 +42,12 @@ pub record CanTurn (turns : Turns) (lock : Lock) : Type 0 where
   pub few : length turns.stages < 2 ^ 32
   pub tracked : AreTracked turns.tracks
   pub form : IsBook lock
+
+-- the same of the turn of a single stage
+pub record CanTurnAlone (s : Stage) : Type 0 where
+  pub stage : IsStage s
+  pub kept : IsKept is_own s
+  pub ordered : is_ordered (s ∷ []) ≡ true
 
 -- the lock is that of the tree
 pub record IsReady (turns : Turns) (lock : Lock) (t : Tree) : Type 0 where
@@ -71,14 +79,14 @@ pub record HasTaken (flags : Flags) (effect : Effect) (stages : List Stage) (loc
 pub record IsUnrecorded (turns : Turns) (lock new_lock : Lock) (got : Result Summary Fault) (old new : History) (before taken : List ℕ) : Type 0 where
   pub fault : Fault
   pub answer : got ≡ Err fault
-  pub record : HasRecorded turns.tracks (Some fault) old new
-  pub lock : new_lock ≡ lock
+  pub tracks : HasRecorded turns.tracks (Some fault) old new
+  pub kept : new_lock ≡ lock
   pub quiet : taken ≡ before
 
 -- the lines are the report of what is due
 pub record AreTurned (flags : Flags) (turns : Turns) (lock new_lock : Lock) (got : Result Summary Fault) (old new : History) (lines : Bool) (before taken : List ℕ) : Type 0 where
   pub begun : History
-  pub record : HasRecorded turns.tracks None old begun
+  pub tracks : HasRecorded turns.tracks None old begun
   pub turned : IfSome begun.present.aside.fixed.effect (λ effect. HasTaken flags effect turns.stages lock new_lock got begun new)
   pub remembered : OnOk got (lock_of (tree_of new) ≡ Some new_lock)
   pub report : IsTrue lines → IfSome begun.present.aside.fixed.effect (λ effect. AreReliable effect turns.stages lock begun.present new.present →

@@ -1,8 +1,8 @@
 //! The turns of a plan: its track files are recorded, and then the stages that were chosen have their turns.
 #![tactic(auto)]
 
-mod repro;
 mod stage;
+mod turns;
 
-pub use repro::repro;
 pub use stage::run_stage;
+pub use turns::repro;

@@ -1,5 +1,5 @@
 // The turn of a single stage of a plan.
-ghost use Rattle.std.specs.Prelude.{◌≡◌, ◌<◌, ◌++◌, ◌∷◌, [], length, false, Some, IsTrue, IfOk, OnOk, IsErrOf};
+ghost use Rattle.std.specs.Prelude.{◌≡◌, ◌<◌, ◌++◌, length, false, Some, IsTrue, IfOk, OnOk, IsErrOf};
 ghost use Rattle.dvc_base.specs.Answer.{fault_in, GainsFront};
 ghost use Rattle.dvc_base.specs.Fault.{MayBe, IsHonest};
 ghost use Rattle.dvc_base.specs.declared.fault.Fault.TheVariants.{WorldFault, OutFault};
@@ -14,7 +14,8 @@ ghost use Rattle.repro_laws.specs.declared.stage.Choice.{Choice as AChoice};
 ghost use Rattle.repro_core.specs.Steps.{turn_kinds};
 ghost use Rattle.repro_core.specs.Telling.{TellsOwn};
 ghost use Rattle.repro_core.specs.Turning.{Turned, ReportsDue};
-ghost use Rattle.stage_plan.specs.Plan.{AreUsable, stage_at};
+ghost use Rattle.stage_plan.specs.Plan.{stage_at};
+ghost use Rattle.plan_turns.specs.Repro.{CanTurnAlone};
 
 use dvc_base::Fault;
 use repro_core::take_turn;
@@ -36,7 +37,7 @@ pub fn run_stage<W: World, K: Sink>(
     out: &mut K,
 ) -> Result<Choice, Fault>
     requires there { stage < length plan.old.stages }
-    requires usable { AreUsable (stage_at plan.old stage ∷ []) }
+    requires alone { CanTurnAlone (stage_at plan.old stage) }
     requires form { IsBook plan.old.lock }
     requires lock { IsTrue W.tells → lock_of (tree_of (W.history world.old)) ≡ Some plan.old.lock }
     requires place { IsTrue W.tells → CanWrite lock_path (tree_of (W.history world.old)) }
@@ -56,7 +57,10 @@ pub fn run_stage<W: World, K: Sink>(
         × GainsFront (K.taken out.old) (lines_of (stage_at plan.old stage) choice) (K.taken out.new) }
     // Of the plan nothing changes but what is remembered.
     ensures kept { plan.new ≡ record {
-      stages = plan.old.stages; tracks = plan.old.tracks; lock = plan.new.lock; graph = plan.old.graph;
+      stages = plan.old.stages;
+      tracks = plan.old.tracks;
+      lock = plan.new.lock;
+      graph = plan.old.graph;
     } }
     ensures form { IsBook plan.new.lock }
     ensures world_cause { IsCaused (W.faults world.old) (W.faults world.new) (IsErrOf result WorldFault) }

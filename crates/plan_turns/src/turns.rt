@@ -43,7 +43,10 @@ pub fn repro<W: World, K: Sink>(
     ensures counted { IfOk result (λ summary. total summary ≡ length (turns_at plan.old chosen.now).stages) }
     // Of the plan nothing changes but what is remembered.
     ensures kept { plan.new ≡ record {
-      stages = plan.old.stages; tracks = plan.old.tracks; lock = plan.new.lock; graph = plan.old.graph;
+      stages = plan.old.stages;
+      tracks = plan.old.tracks;
+      lock = plan.new.lock;
+      graph = plan.old.graph;
     } }
     ensures form { IsBook plan.new.lock }
     ensures world_cause { IsCaused (W.faults world.old) (W.faults world.new) (IsErrOf result WorldFault) }
