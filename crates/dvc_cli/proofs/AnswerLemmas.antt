@@ -1,8 +1,7 @@
 -- Answers of a command line, case by case.
 --     kind_apart, ends_reading            of what kind a fault isn't; what stops the reading of a workspace
 --     refused_first, none_gained          a refusal that comes before any turn
---     nothing_told                        no line is a front of the report of any stages
-use Rattle.std.proofs.Common.{◌≡◌, ℕ, Bool, true, false, not, ◌||◌, List, [], ◌∷◌, ◌++◌, map, Option, Some, None, IsTrue, ◌==◌, refl, sym, ap, ◌∙◌, subst, ◌⊎◌, inl, inr}
+use Rattle.std.proofs.Common.{◌≡◌, ℕ, Bool, true, false, not, ◌||◌, List, [], ◌∷◌, ◌++◌, Option, Some, None, IsTrue, ◌==◌, refl, sym, ap, ◌∙◌, subst, ◌⊎◌, inl, inr}
 use Rattle.std.specs.List.{list_any, list_all}
 use Rattle.std.proofs.lemmas.Bool.{and_parts, or_cases, false≢true, eqb-true}
 use Rattle.std.proofs.lemmas.List.{append-nil}
@@ -12,10 +11,6 @@ use Rattle.dvc_base.specs.declared.fault.Fault.{Fault}
 use Rattle.dvc_base.specs.declared.fault.FaultKind.{FaultKind}
 use Rattle.dvc_base.specs.declared.fault.FaultKind.TheVariants as k
 use Rattle.repro_laws.specs.Refusals.{first_fault}
-use Rattle.repro_laws.specs.Sound.{choice_lines, IsReport}
-use Rattle.repro_laws.specs.declared.stage.Stage.{Stage}
-use Rattle.repro_laws.specs.declared.stage.Choice.{Choice}
-use Rattle.repro_laws.specs.declared.stage.Choice.TheVariants.{Run}
 use Rattle.repro_core.proofs.GainLemmas.{front_none}
 use Rattle.dvc_cli.specs.Workspace.{read_kinds}
 use Rattle.dvc_cli.specs.Command.{halt_kinds}
@@ -80,25 +75,3 @@ none_due fault due whole (inr e) none = inr (none e)
 pub none_gained : {A : Type 0} (fault : Fault) (due : Option Fault) (old whole : List A) → IsAnswer (Some fault) due
     → (due ≡ Some fault → whole ≡ []) → Gains (Some fault) old whole old
 none_gained fault due old whole a none = gained_none (is_free fault) old whole (none_due fault due whole a none)
-
--- ---- no lines
-
-runs_of : List Stage → List (Stage × Choice)
-runs_of [] = []
-runs_of (s ∷ ss) = (s, Run) ∷ runs_of ss
-
-runs_of-stages : (stages : List Stage) → map (λ c. c.0) (runs_of stages) ≡ stages
-unfolding runs_of
-runs_of-stages [] = refl
-runs_of-stages (s ∷ ss) = ap (λ l. s ∷ l) (runs_of-stages ss)
-
-some_is_none : (fault : Fault) → Some fault ≡ None → ⊥
-some_is_none fault e = cc
-
-pub nothing_told : (stages : List Stage) (fault : Fault) (old : List ℕ) → IsReport stages (Some fault) old old
-nothing_told stages fault old = record {
-  choices = runs_of stages;
-  each = runs_of-stages stages;
-  taken = front_none old (choice_lines (runs_of stages));
-  whole = λ e. absurd (some_is_none fault e);
-}

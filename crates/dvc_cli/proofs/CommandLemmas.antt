@@ -1,7 +1,7 @@
 -- What a command does, on each way that it may end.
 --     refused_.., no_..      nothing has happened
 --     words_.., unread_..    the words, or the workspace, are refused or couldn't be read
-use Rattle.std.proofs.Common.{◌≡◌, ℕ, Bool, false, List, [], Option, Some, None, Result, Ok, Err, OnOk, IfErr, IfSome, IsSome, IsTrue, refl, sym, ap, subst, inl, inr}
+use Rattle.std.proofs.Common.{◌≡◌, ℕ, Bool, false, List, [], Option, Some, None, Err, IfSome, IsSome, IsTrue, refl, sym, ap, subst, inl, inr}
 use Rattle.std.specs.List.{list_all}
 use Rattle.std.specs.Option.{option_map_or}
 use Rattle.std.proofs.lemmas.Bool.{false≢true}
@@ -24,11 +24,12 @@ use Rattle.repro_laws.specs.Sound.{lock_of, IsSound}
 use Rattle.dvc_cli.specs.declared.words.Request.{Request}
 use Rattle.dvc_cli.specs.declared.words.Request.TheVariants.{Repro}
 use Rattle.dvc_cli.specs.Words.{IsAsked}
-use Rattle.stage_plan.specs.declared.plan.Chosen.{Chosen}
+use Rattle.stage_plan.specs.declared.turns.Turns.{Turns}
 use Rattle.dvc_cli.specs.Workspace.{chosen_of, workspace_fault, workspace_by, read_kinds}
 use Rattle.dvc_cli.specs.Command.{refusal, Work, work_in, work_due, stages_due, flags_of, halt_kinds, tracks_refusal, turns_due, IsReliable, IsHaltedIn, IsHalted, InWork, InCommand, DoesCommand, command_kinds, Answers, ReportsTurns, PutsReport}
-use Rattle.dvc_cli.proofs.RecordLemmas.{records_itself}
-use Rattle.dvc_cli.proofs.AnswerLemmas.{kind_apart, ends_reading, refused_first, none_gained, nothing_told}
+use Rattle.plan_turns.proofs.KeptLemmas.{records_itself}
+use Rattle.plan_turns.proofs.TakesLemmas.{nothing_told}
+use Rattle.dvc_cli.proofs.AnswerLemmas.{kind_apart, ends_reading, refused_first, none_gained}
 
 pub any_effect : (o : Option Effect) (P : Effect → Type 0) → ((effect : Effect) → P effect) → IfSome o P
 any_effect None P all = tt
@@ -38,21 +39,13 @@ pub each_effect : (o : Option Effect) (P R : Effect → Type 0) → ((effect : E
 each_effect None P R weaker p = tt
 each_effect (Some effect) P R weaker p = weaker effect p
 
-pub at_ok : {A : Type 0} (P : Type 0) (tells : Bool) (r : Result A Fault) → IsTrue tells → OnOk r (IsTrue tells → P) → OnOk r P
-at_ok P tells (Ok done) t p = p t
-at_ok P tells (Err fault) t p = tt
-
-pub at_err : {A : Type 0} (P : Fault → Type 0) (tells : Bool) (r : Result A Fault) → IsTrue tells → IfErr r (λ fault. IsTrue tells → P fault) → IfErr r P
-at_err P tells (Ok done) t p = tt
-at_err P tells (Err fault) t p = p t
-
 -- ---- nothing has happened
 
 in_work-itself : (effect : Effect) (w : Option Work) (m : Moment) → InWork effect w m m m
 in_work-itself effect None m = refl
 in_work-itself effect (Some w) m = inl (records_itself w.tracks m)
 
-no_work : (force : Bool) (fault : Fault) (a : Option Fault) (chosen : Option Chosen) (lock : Option Lock) → a ≡ Some fault → work_in force (workspace_by a chosen lock) ≡ None
+no_work : (force : Bool) (fault : Fault) (a : Option Fault) (chosen : Option Turns) (lock : Option Lock) → a ≡ Some fault → work_in force (workspace_by a chosen lock) ≡ None
 no_work force fault a chosen lock e = rw e refl
 
 refused_work : (request : Option Request) (t : Tree) (fault : Fault) → refusal request t ≡ Some fault → work_due request t ≡ None
@@ -161,7 +154,7 @@ words_answers request tells fault (inr memory) = record {
 
 -- ---- the workspace couldn't be read
 
-halted_in : (effect : Effect) (force : Bool) (fault : Fault) (a : Option Fault) (chosen : Option Chosen) (lock : Option Lock) (m : Moment)
+halted_in : (effect : Effect) (force : Bool) (fault : Fault) (a : Option Fault) (chosen : Option Turns) (lock : Option Lock) (m : Moment)
     → MayBe read_kinds (Some fault) → IsAnswer (Some fault) a → IsHaltedIn effect (work_in force (workspace_by a chosen lock)) fault m m
 halted_in effect force fault (Some x) chosen lock m read answer = refl
 halted_in effect force fault None None lock m read answer = refl

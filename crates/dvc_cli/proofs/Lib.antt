@@ -11,3 +11,4 @@ pub mod WorkLemmas
 pub mod TurnsLemmas
 pub mod LifeLaw
 pub mod VarLemmas
+mod TookLemmas

@@ -3,19 +3,16 @@
 --     records_lock           the lock stays
 --     records_sound          each moment of it is sound, where it begins at a sound one
 --     met_begun, ran_begun   what was met, and which jobs have run, since the turns began
---     records_itself         before anything is recorded
-use Rattle.std.proofs.Common.{◌≡◌, ℕ, Bool, true, false, ◌&&◌, ◌||◌, List, [], ◌∷◌, ◌++◌, Some, refl, sym, ap, ◌∙◌, subst, ◌⊎◌, inl, inr, bytes_eq, codes}
+use Rattle.std.proofs.Common.{◌≡◌, ℕ, Bool, true, false, ◌&&◌, ◌||◌, List, [], ◌∷◌, ◌++◌, refl, sym, ap, ◌∙◌, subst, ◌⊎◌, inl, inr, bytes_eq, codes}
 use Rattle.std.specs.List.{AllByRecursion}
 use Rattle.std.proofs.lemmas.Bool.{cases_Bool, false≢true, or_from, or_cases, and_parts, false_from_ne_true, both_ways}
 use Rattle.dvc_base.specs.Path.{Path, under, overlap}
 use Rattle.dvc_base.proofs.PathLemmas.{under-antisym, under-overlap}
-use Rattle.world_api.specs.Tree.{Tree, folder, file, item_at}
-use Rattle.world_api.specs.Calls.{parent}
+use Rattle.world_api.specs.Tree.{item_at}
 use Rattle.world_api.specs.Effect.{Effect}
 use Rattle.world_api.specs.History.{Moment, Book, Stays, itself}
 use Rattle.world_api.specs.Layout.{dvc_path, tmp_path, lock_path, yaml_path}
-use Rattle.world_api.specs.Writes.{is_at, IsMade, IsSameUnder, IsNoFileAt, CanWrite, in_scratch}
-use Rattle.world_api.proofs.HistoryLemmas.{keeps_itself}
+use Rattle.world_api.specs.Writes.{is_at, IsSameUnder, in_scratch}
 use Rattle.object_cache.specs.Objects.{object_path}
 use Rattle.object_cache.specs.Store.{is_cache_folder, IsKeptPlace}
 use Rattle.stage_graph.specs.declared.track.TrackFile.{TrackFile}
@@ -83,26 +80,6 @@ records_remember fs m n named h = ap lock_by (records_lock fs m n named h)
 dvc_is_folder : is_cache_folder dvc_path ≡ true
 unfolding dvc_path
 dvc_is_folder = refl
-
-root_above_lock : (t : Tree) → item_at t (parent lock_path) ≡ Some folder
-unfolding lock_path
-root_above_lock t = refl
-
-folder_file : (bytes : List ℕ) → Some folder ≡ Some (file bytes) → ⊥
-folder_file bytes e = cc
-
-no_file_then : (m n : Moment) → IsMade dvc_path m n → IsNoFileAt m.tree dvc_path → IsNoFileAt n.tree dvc_path
-no_file_then m n (inl same) none bytes e = none bytes (sym same.item ∙ e)
-no_file_then m n (inr made) none bytes e = folder_file bytes (sym made.1.stands ∙ e)
-
--- a lock can still be written
-pub records_place : (fs : List TrackFile) (m n : Moment) → AllByRecursion (λ f. is_track_path f.file ≡ true) fs → InRecords fs m n → CanWrite lock_path m.tree → CanWrite lock_path n.tree
-records_place fs m n named h place =
-    let room = place.room in
-    record {
-      room = record { above = root_above_lock n.tree; no_folder = λ e. room.no_folder (sym (records_lock fs m n named h) ∙ e) };
-      no_file = no_file_then m n (h.folders dvc_path dvc_is_folder) place.no_file;
-    }
 
 -- ---- what a stop may change
 
@@ -198,18 +175,3 @@ met_begun book (s ∷ ss) m b n aside met = (λ h. met.0 (by h), met_begun book 
     by : HasRunFor s b n ⊎ IsKnown n s → HasRunFor s m n ⊎ IsKnown n s
     by (inl ran) = inl (ran_begun m b n s aside ran)
     by (inr known) = inr known
-
--- ---- nothing is recorded
-
-pub records_itself : (fs : List TrackFile) (m : Moment) → InRecords fs m m
-records_itself fs m = record {
-  files = each fs;
-  folders = λ p cache. inl (record { item = refl; loose = refl });
-  places = λ name. inl (record { items = λ p below. refl; loose = λ p below. refl });
-  objects = λ name bytes e. e;
-  others = keeps_itself (λ p. in_files fs p || in_stored p) m;
-}
-  where
-    each : (fs : List TrackFile) → AllByRecursion (λ f. IsSameUnder f.file m m ⊎ IsPublished m.tree f m) fs
-    each [] = tt
-    each (f ∷ fs) = (inl (record { items = λ p below. refl; loose = λ p below. refl }), each fs)

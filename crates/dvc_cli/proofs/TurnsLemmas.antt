@@ -4,8 +4,7 @@
 --     unrecorded_..    the track files couldn't be recorded
 --     IsBegun          they are recorded
 --     turned_..        its stages have had their turns
-use Rattle.std.proofs.Common.{◌≡◌, ℕ, Bool, true, List, [], Option, Some, None, Result, Ok, Err, OnOk, IfErr, IfSome, IsSome, IsTrue, refl, sym, ap, ◌∙◌, subst, inl, inr}
-use Rattle.std.specs.List.{AllByRecursion}
+use Rattle.std.proofs.Common.{◌≡◌, ℕ, Bool, List, [], Option, Some, None, Result, Ok, Err, OnOk, IfErr, IfSome, IsSome, IsTrue, refl, sym, ap, ◌∙◌, subst, inl, inr}
 use Rattle.std.proofs.lemmas.Bool.{false≢true}
 use Rattle.dvc_base.specs.Answer.{IsAnswer, fault_in}
 use Rattle.dvc_base.specs.declared.fault.Fault.{Fault}
@@ -13,13 +12,10 @@ use Rattle.world_api.specs.Tree.{Tree}
 use Rattle.world_api.specs.Effect.{Effect}
 use Rattle.world_api.specs.History.{Moment, History, Book, Passes, Stays, itself}
 use Rattle.world_api.specs.Outside.{tree_of, jobs_of, WithEffect}
-use Rattle.world_api.specs.Layout.{lock_path}
-use Rattle.world_api.specs.Writes.{CanWrite}
 use Rattle.world_api.specs.declared.job.Job.{Job}
 use Rattle.world_api.proofs.HistoryLemmas.{passes_then, passes_weaker}
 use Rattle.lock_files.specs.Book.{Lock}
 use Rattle.stage_graph.specs.declared.track.TrackFile.{TrackFile}
-use Rattle.workspace_files.specs.Walk.{is_track_path}
 use Rattle.repro_laws.specs.Due.{Due, standing_of, due, fault_of, report, jobs}
 use Rattle.repro_laws.specs.Refusals.{first_fault}
 use Rattle.repro_laws.specs.Turns.{state}
@@ -38,10 +34,11 @@ use Rattle.dvc_cli.specs.declared.words.Request.{Request}
 use Rattle.dvc_cli.specs.declared.words.Request.TheVariants.{Repro}
 use Rattle.dvc_cli.specs.Workspace.{chosen_of, workspace_fault}
 use Rattle.dvc_cli.specs.Command.{refusal, Work, work_due, stages_due, tracks_due, flags_of, fault_due, turns_unless, turns_due, IsReliable, Reproduces, TakesTurns, IsHaltedIn, IsHalted, InWork, InCommand, Begins, DoesCommand, Refuses, ReportsTurns, PutsReport}
-use Rattle.dvc_cli.proofs.AnswerLemmas.{refused_first, none_gained, nothing_told}
+use Rattle.plan_turns.proofs.TakesLemmas.{nothing_told}
+use Rattle.dvc_cli.proofs.AnswerLemmas.{refused_first, none_gained}
 use Rattle.dvc_cli.proofs.CommandLemmas.{any_effect, each_effect, some_is_none}
-use Rattle.dvc_cli.proofs.RecordLemmas.{records_remember, records_place, records_sound, met_begun}
-use Rattle.dvc_cli.proofs.WorkLemmas.{IsWork, good_choice, work_is}
+use Rattle.dvc_cli.proofs.RecordLemmas.{records_remember, records_sound, met_begun}
+use Rattle.dvc_cli.proofs.WorkLemmas.{IsWork, work_is}
 
 -- ---- what there is to do
 
@@ -59,32 +56,12 @@ pub record Turned {A : Type 0} (flags : Flags) (effect : Effect) (stages : List 
   pub halted : IfErr r (λ fault. AreHalted flags effect stages lock fault old.present new.present)
   pub moments : Passes (InTurns flags effect stages lock old.present new.present) old new
 
-pub turned_at : {A : Type 0} (flags : Flags) (o : Option Effect) (stages : List Stage) (lock new_lock : Lock) (r : Result A Fault) (old new : History)
-    → OnOk r (IfSome o (λ effect. AreReliable effect stages lock old.present new.present → LeavesAnew is_own effect stages (state (tree_of old) lock) (state (tree_of new) new_lock)))
-    → OnOk r (IfSome o (λ effect. AreTaken flags effect stages lock new_lock old.present new.present))
-    → IfSome o (λ effect. AreReliable effect stages lock old.present new.present → IsAnswerAt (tree_of new) (fault_in r) (fault_of flags effect stages (standing_of (tree_of old) lock)))
-    → IfSome o (λ effect. AreReliable effect stages lock old.present new.present → JobsGain (tree_of new) (fault_in r) (jobs_of old) (jobs (due flags effect stages (standing_of (tree_of old) lock))) (jobs_of new))
-    → IfSome o (λ effect. due flags effect stages (standing_of (tree_of old) lock) ≡ [] → new ≡ old)
-    → IfErr r (λ fault. IfSome o (λ effect. AreHalted flags effect stages lock fault old.present new.present))
-    → IfSome o (λ effect. Passes (InTurns flags effect stages lock old.present new.present) old new)
-    → IfSome o (λ effect. Turned flags effect stages lock new_lock r old new)
-turned_at flags None stages lock new_lock r old new headline taken answer ran untouched halted moments = tt
-turned_at flags (Some effect) stages lock new_lock r old new headline taken answer ran untouched halted moments = record {
-  headline = headline;
-  taken = taken;
-  answer = answer;
-  ran = ran;
-  untouched = untouched;
-  halted = halted;
-  moments = moments;
-}
-
 -- ---- what is due
 
 refused_none : (request : Option Request) (t : Tree) → refusal request t ≡ None → IsSome (refusal request t) → ⊥
 refused_none request t e some = false≢true (subst (λ (f : Option Fault). IsSome f) e some)
 
-stages_due-is : (request : Option Request) (t : Tree) (w : Work) → IsWorkOf request t w → w.stages ≡ stages_due request t
+pub stages_due-is : (request : Option Request) (t : Tree) (w : Work) → IsWorkOf request t w → w.stages ≡ stages_due request t
 stages_due-is request t w is = rw is.is_due refl
 
 tracks_due-is : (request : Option Request) (t : Tree) (w : Work) → IsWorkOf request t w → w.tracks ≡ tracks_due request t
@@ -332,7 +309,7 @@ turned_does r request w new_lock start old mid new same u is begun remembers tur
     (each_effect mid.present.aside.fixed.effect (λ effect. Turned (flags_of w.force) effect w.stages w.lock new_lock r mid new) (λ effect. DoesCommand request effect (fault_in r) old new)
     (λ effect. turned_here r request effect w new_lock old mid new is begun u remembers) turned))
 
-not_refused : (request : Option Request) (start old : History) (w : Work) → old ≡ start → IsWorkOf request (tree_of old) w → IsSome (refusal request (tree_of start)) → ⊥
+pub not_refused : (request : Option Request) (start old : History) (w : Work) → old ≡ start → IsWorkOf request (tree_of old) w → IsSome (refusal request (tree_of start)) → ⊥
 not_refused request start old w same is some =
     refused_none request (tree_of old) is.none (subst (λ (h : History). IsSome (refusal request (tree_of h))) (sym same) some)
 
@@ -376,20 +353,3 @@ work_at force targets start old read stages found tracks lock same e f none c l 
       is_due = rw (none_there, chosen_there, lock_there) refl;
       remembered = lock_there;
     }
-
--- the lock is as it was when the turns begin, and can be written
-named_at : (targets : List (List ℕ)) (start : History) (read : List Stage) (found tracks : List TrackFile) → tracks ≡ found → chosen_of targets (tree_of start) ≡ Some (record { stages = read; tracks = found })
-    → AllByRecursion (λ f. is_track_path f.file ≡ true) tracks
-named_at targets start read found tracks e c =
-    let good = good_choice targets (tree_of start) (record { stages = read; tracks = found }) c in
-    subst (AllByRecursion (λ (f : TrackFile). is_track_path f.file ≡ true)) (sym e) good.named
-
-pub lock_begun : (targets : List (List ℕ)) (read : List Stage) (found tracks : List TrackFile) (lock : Lock) (start old mid : History) → old ≡ start → tracks ≡ found
-    → chosen_of targets (tree_of start) ≡ Some (record { stages = read; tracks = found }) → lock_of (tree_of start) ≡ Some lock → Passes (InRecords tracks old.present) old mid → lock_of (tree_of mid) ≡ Some lock
-lock_begun targets read found tracks lock start old mid same e c l moments =
-    records_remember tracks old.present mid.present (named_at targets start read found tracks e c) moments.now ∙ (ap (λ (h : History). lock_of (tree_of h)) same ∙ l)
-
-pub place_begun : (targets : List (List ℕ)) (read : List Stage) (found tracks : List TrackFile) (start old mid : History) → old ≡ start → tracks ≡ found
-    → chosen_of targets (tree_of start) ≡ Some (record { stages = read; tracks = found }) → CanWrite lock_path (tree_of start) → Passes (InRecords tracks old.present) old mid → CanWrite lock_path (tree_of mid)
-place_begun targets read found tracks start old mid same e c place moments =
-    records_place tracks old.present mid.present (named_at targets start read found tracks e c) moments.now (subst (λ (h : History). CanWrite lock_path (tree_of h)) (sym same) place)

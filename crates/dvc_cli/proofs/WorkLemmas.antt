@@ -14,7 +14,7 @@ use Rattle.stage_graph.specs.declared.track.TrackFile.{TrackFile}
 use Rattle.workspace_files.specs.Walk.{is_track_path}
 use Rattle.repro_laws.specs.Sound.{lock_of}
 use Rattle.stage_plan.specs.Plan.{plan_of, AreUsable}
-use Rattle.stage_plan.specs.declared.plan.Chosen.{Chosen}
+use Rattle.stage_plan.specs.declared.turns.Turns.{Turns}
 use Rattle.stage_plan.specs.declared.sources.Sources.{Sources}
 use Rattle.stage_plan.proofs.PlanLemmas.{plan_usable}
 use Rattle.stage_plan.proofs.TrackedLemmas.{tracks_kept}
@@ -32,21 +32,21 @@ use Rattle.dvc_cli.proofs.SourceLemmas.{sources_named}
 abbrev AreNamed : List TrackFile → Type 0
 AreNamed fs = AllByRecursion (λ f. is_track_path f.file ≡ true) fs
 
-pub record IsGoodChoice (chosen : Chosen) : Type 0 where
+pub record IsGoodChoice (chosen : Turns) : Type 0 where
   pub usable : AreUsable chosen.stages
   pub named : AreNamed chosen.tracks
 
-none_chosen : (c : Chosen) → None ≡ Some c → ⊥
+none_chosen : (c : Turns) → None ≡ Some c → ⊥
 none_chosen c e = cc
 
-same_chosen : (a b : Chosen) → Some a ≡ Some b → a ≡ b
+same_chosen : (a b : Turns) → Some a ≡ Some b → a ≡ b
 same_chosen a b e = cc
 
-planned : (plan : Result Chosen Fault) (chosen : Chosen) → result_ok plan ≡ Some chosen → plan ≡ Ok chosen
+planned : (plan : Result Turns Fault) (chosen : Turns) → result_ok plan ≡ Some chosen → plan ≡ Ok chosen
 planned (Ok found) chosen e = ap Ok (same_chosen found chosen e)
 planned (Err fault) chosen e = absurd (none_chosen chosen e)
 
-of_files : (t : Tree) (targets : List (List ℕ)) (root : Node) (files : Result (List VarFile) Fault) (sources : Result Sources Fault) (chosen : Chosen) → sources_of t ≡ sources → result_ok (plan_by_files targets root files sources) ≡ Some chosen → IsGoodChoice chosen
+of_files : (t : Tree) (targets : List (List ℕ)) (root : Node) (files : Result (List VarFile) Fault) (sources : Result Sources Fault) (chosen : Turns) → sources_of t ≡ sources → result_ok (plan_by_files targets root files sources) ≡ Some chosen → IsGoodChoice chosen
 of_files t targets root (Ok files) (Ok sources) chosen is e =
     let plan = planned (plan_of targets root files sources) chosen e in
     record {
@@ -56,11 +56,11 @@ of_files t targets root (Ok files) (Ok sources) chosen is e =
 of_files t targets root (Ok files) (Err fault) chosen is e = absurd (none_chosen chosen e)
 of_files t targets root (Err fault) sources chosen is e = absurd (none_chosen chosen e)
 
-of_root : (targets : List (List ℕ)) (t : Tree) (read : Result Node Fault) (chosen : Chosen) → result_ok (plan_by_root targets t read) ≡ Some chosen → IsGoodChoice chosen
+of_root : (targets : List (List ℕ)) (t : Tree) (read : Result Node Fault) (chosen : Turns) → result_ok (plan_by_root targets t read) ≡ Some chosen → IsGoodChoice chosen
 of_root targets t (Ok root) chosen e = of_files t targets root (vars_of t root) (sources_of t) chosen refl e
 of_root targets t (Err fault) chosen e = absurd (none_chosen chosen e)
 
-pub good_choice : (targets : List (List ℕ)) (t : Tree) (chosen : Chosen) → chosen_of targets t ≡ Some chosen → IsGoodChoice chosen
+pub good_choice : (targets : List (List ℕ)) (t : Tree) (chosen : Turns) → chosen_of targets t ≡ Some chosen → IsGoodChoice chosen
 good_choice targets t chosen e = of_root targets t (root_at (item_at t yaml_path)) chosen e
 
 -- ---- what there is to do
@@ -77,7 +77,7 @@ no_work w e = cc
 same_work : (a b : Work) → Some a ≡ Some b → a ≡ b
 same_work a b e = cc
 
-work_parts : (force : Bool) (a : Option Fault) (chosen : Option Chosen) (lock : Option Lock) (w : Work) → work_in force (workspace_by a chosen lock) ≡ Some w → (chosen ≡ Some (record { stages = w.stages; tracks = w.tracks })) × (lock ≡ Some w.lock)
+work_parts : (force : Bool) (a : Option Fault) (chosen : Option Turns) (lock : Option Lock) (w : Work) → work_in force (workspace_by a chosen lock) ≡ Some w → (chosen ≡ Some (record { stages = w.stages; tracks = w.tracks })) × (lock ≡ Some w.lock)
 work_parts force (Some fault) chosen lock w e = absurd (no_work w e)
 work_parts force None None lock w e = absurd (no_work w e)
 work_parts force None (Some chosen) None w e = absurd (no_work w e)

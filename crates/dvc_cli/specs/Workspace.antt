@@ -21,7 +21,7 @@ use Rattle.template_expand.specs.declared.files.VarFile.{VarFile}
 use Rattle.stage_graph.specs.declared.track.TrackFile.{TrackFile}
 use Rattle.repro_core.specs.Steps.{tracked_kinds}
 use Rattle.stage_plan.specs.Plan.{plan_of, schema_kinds, plan_kinds}
-use Rattle.stage_plan.specs.declared.plan.Chosen.{Chosen}
+use Rattle.stage_plan.specs.declared.turns.Turns.{Turns}
 use Rattle.dvc_cli.specs.Vars.{vars_of}
 use Rattle.dvc_cli.specs.Sources.{sources_of}
 use Rattle.dvc_cli.specs.Read.{root_at, book_at}
@@ -29,19 +29,19 @@ use Rattle.stage_plan.specs.declared.sources.Sources.{Sources}
 
 -- ---- what is chosen
 
-abbrev pub plan_by_files : List (List ℕ) → Node → Result (List VarFile) Fault → Result Sources Fault → Result Chosen Fault
+abbrev pub plan_by_files : List (List ℕ) → Node → Result (List VarFile) Fault → Result Sources Fault → Result Turns Fault
 plan_by_files targets root (Ok files) (Ok sources) = plan_of targets root files sources
 plan_by_files targets root (Ok files) (Err fault) = Err fault
 plan_by_files targets root (Err fault) sources = Err fault
 
-abbrev pub plan_by_root : List (List ℕ) → Tree → Result Node Fault → Result Chosen Fault
+abbrev pub plan_by_root : List (List ℕ) → Tree → Result Node Fault → Result Turns Fault
 plan_by_root targets t (Ok root) = plan_by_files targets root (vars_of t root) (sources_of t)
 plan_by_root targets t (Err fault) = Err fault
 
-abbrev pub plan_in : List (List ℕ) → Tree → Result Chosen Fault
+abbrev pub plan_in : List (List ℕ) → Tree → Result Turns Fault
 plan_in targets t = plan_by_root targets t (root_at (item_at t yaml_path))
 
-abbrev pub chosen_of : List (List ℕ) → Tree → Option Chosen
+abbrev pub chosen_of : List (List ℕ) → Tree → Option Turns
 chosen_of targets t = result_ok (plan_in targets t)
 
 -- ---- what is refused of it
@@ -89,7 +89,7 @@ pub record Workspace : Type 0 where
   pub tracks : List TrackFile
   pub lock : Lock
 
-abbrev pub workspace_by : Option Fault → Option Chosen → Option Lock → Option Workspace
+abbrev pub workspace_by : Option Fault → Option Turns → Option Lock → Option Workspace
 workspace_by None (Some chosen) (Some lock) = Some (record { stages = chosen.stages; tracks = chosen.tracks; lock = lock })
 workspace_by _ _ _ = None
 

@@ -13,10 +13,9 @@ use crate::message::tell;
 use crate::words::{Request, read_words};
 use crate::workspace::read_workspace;
 use dvc_base::{Fault, Text, Texts};
-use repro_core::repro;
+use plan_turns::repro;
 use repro_laws::Flags;
 use std::alloc::Global;
-use track_record::record_tracks;
 use world_api::{Sink, World};
 
 /// How a call of the program ended: its exit status, and the fault that it told, if there is one.
@@ -115,7 +114,6 @@ fn reproduce<W: World, K: Sink>(
     ensures out_cause { IsCaused (K.faults out.old) (K.faults out.new) (fault_in result ≡ Some OutFault) }
 {
     let mut workspace = read_workspace(alloc, world, targets)?;
-    record_tracks(alloc, world, workspace.tracks.as_slice())?;
     // No output comes back from the cache yet.
     let flags = Flags {
         force,
@@ -124,9 +122,10 @@ fn reproduce<W: World, K: Sink>(
     repro(
         alloc,
         world,
-        &mut workspace.lock,
-        workspace.stages.as_slice(),
+        &mut workspace.plan,
+        &workspace.chosen,
         flags,
         out,
-    )
+    )?;
+    Ok(())
 }

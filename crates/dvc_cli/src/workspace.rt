@@ -1,17 +1,14 @@
-// The workspace: its stages and track files, and what is remembered.
-ghost use Rattle.std.specs.Prelude.{◌≡◌, IsTrue, IfOk, IsErrOf, Some, None, Ok};
+// The workspace: its plan, and what targets choose of it.
+ghost use Rattle.std.specs.Prelude.{◌≡◌, ◌<◌, ◌^◌, length, IsTrue, IfOk, IsErrOf, Some, None, Ok};
 ghost use Rattle.dvc_base.specs.Answer.{fault_in, IsAnswer};
 ghost use Rattle.dvc_base.specs.Fault.{MayBe, IsHonest};
 ghost use Rattle.dvc_base.specs.declared.fault.Fault.TheVariants.{WorldFault};
 ghost use Rattle.world_api.specs.Tree.{item_at};
 ghost use Rattle.world_api.specs.History.{IsCaused};
-ghost use Rattle.world_api.specs.Layout.{dvc_path, lock_path};
+ghost use Rattle.world_api.specs.Layout.{dvc_path};
 ghost use Rattle.world_api.specs.Outside.{tree_of, IsUntouched};
-ghost use Rattle.world_api.specs.Writes.{CanWrite};
-ghost use Rattle.lock_files.specs.Form.{IsBook};
-ghost use Rattle.repro_laws.specs.Sound.{lock_of};
-ghost use Rattle.stage_plan.specs.Plan.{AreUsable};
-ghost use Rattle.track_record.specs.Records.{AreTracked, AreReady};
+ghost use Rattle.stage_plan.specs.Plan.{plan_of, plan_kinds, turns_at};
+ghost use Rattle.plan_turns.specs.Repro.{CanTurn, IsReady};
 ghost use Rattle.dvc_cli.specs.Workspace.{chosen_of, place_fault, plan_by_root, rest_fault, workspace_fault, read_kinds};
 
 use crate::book::read_book;
@@ -20,18 +17,16 @@ use crate::sources::read_sources;
 use crate::vars::read_vars;
 use dvc_base::{Fault, Node, Text};
 use lock_files::LockBook;
-use repro_laws::Stages;
-use stage_graph::Tracks;
-use stage_plan::{Chosen, plan_of};
+use stage_plan::{Chosen, Plan, Sources};
 use std::alloc::Global;
+use template_expand::VarFile;
 use world_api::{Kind, ReadFiles, dvc_path};
 
-/// The stages of a workspace in their order, its track files, and what is remembered.
+/// What a workspace says, and the stages and track files of it that targets choose.
 #[derive(Drop)]
 pub(crate) struct Workspace {
-    pub(crate) stages: Stages,
-    pub(crate) tracks: Tracks,
-    pub(crate) lock: LockBook,
+    pub(crate) plan: Plan,
+    pub(crate) chosen: Chosen,
 }
 
 /// Reads `dvc.yaml`, the files of variables that it names, the `.dvcignore` files and track files that stand in the workspace,
@@ -44,17 +39,11 @@ pub(crate) fn read_workspace<F: ReadFiles>(
     files: &mut F,
     targets: &[Text],
 ) -> Result<Workspace, Fault>
-    ensures ready { IfOk result (λ workspace. AreUsable workspace.stages) }
-    ensures form { IfOk result (λ workspace. IsBook workspace.lock) }
-    ensures tracked { IfOk result (λ workspace. AreTracked workspace.tracks) }
-    ensures standing { IsTrue F.tells → IfOk result (λ workspace.
-        AreReady workspace.tracks (tree_of (F.history files.old))) }
+    ensures can { IfOk result (λ workspace. CanTurn (turns_at workspace.plan workspace.chosen) workspace.plan.lock) }
+    ensures ready { IsTrue F.tells → IfOk result (λ workspace.
+        IsReady (turns_at workspace.plan workspace.chosen) workspace.plan.lock (tree_of (F.history files.old))) }
     ensures planned { IsTrue F.tells → IfOk result (λ workspace.
-        chosen_of targets.now (tree_of (F.history files.old)) ≡ Some (record { stages = workspace.stages; tracks = workspace.tracks })) }
-    ensures remembered { IsTrue F.tells → IfOk result (λ workspace.
-        lock_of (tree_of (F.history files.old)) ≡ Some workspace.lock) }
-    ensures place { IsTrue F.tells → IfOk result (λ workspace.
-        CanWrite lock_path (tree_of (F.history files.old))) }
+        chosen_of targets.now (tree_of (F.history files.old)) ≡ Some (turns_at workspace.plan workspace.chosen)) }
     ensures answer { IsTrue F.tells →
         IsAnswer (fault_in result) (workspace_fault targets.now (tree_of (F.history files.old))) }
     ensures unchanged { IsUntouched F.tells (F.history files.old) (F.history files.new) }
@@ -75,18 +64,12 @@ fn read_rest<F: ReadFiles>(
     targets: &[Text],
 ) -> Result<Workspace, Fault>
     requires place { IsTrue F.tells → place_fault (item_at (tree_of (F.history files.old)) dvc_path) ≡ None }
-    ensures ready { IfOk result (λ workspace. AreUsable workspace.stages) }
-    ensures form { IfOk result (λ workspace. IsBook workspace.lock) }
-    ensures tracked { IfOk result (λ workspace. AreTracked workspace.tracks) }
-    ensures standing { IsTrue F.tells → IfOk result (λ workspace.
-        AreReady workspace.tracks (tree_of (F.history files.old))) }
+    ensures can { IfOk result (λ workspace. CanTurn (turns_at workspace.plan workspace.chosen) workspace.plan.lock) }
+    ensures ready { IsTrue F.tells → IfOk result (λ workspace.
+        IsReady (turns_at workspace.plan workspace.chosen) workspace.plan.lock (tree_of (F.history files.old))) }
     ensures planned { IsTrue F.tells → IfOk result (λ workspace.
         plan_by_root targets.now (tree_of (F.history files.old)) (Ok root.now)
-        ≡ Ok (record { stages = workspace.stages; tracks = workspace.tracks })) }
-    ensures remembered { IsTrue F.tells → IfOk result (λ workspace.
-        lock_of (tree_of (F.history files.old)) ≡ Some workspace.lock) }
-    ensures place { IsTrue F.tells → IfOk result (λ workspace.
-        CanWrite lock_path (tree_of (F.history files.old))) }
+        ≡ Ok (turns_at workspace.plan workspace.chosen)) }
     ensures answer { IsTrue F.tells →
         IsAnswer (fault_in result) (rest_fault targets.now (tree_of (F.history files.old)) root.now) }
     ensures unchanged { IsUntouched F.tells (F.history files.old) (F.history files.new) }
@@ -97,23 +80,29 @@ fn read_rest<F: ReadFiles>(
     let vars = read_vars(alloc, files, root)?;
     let sources = read_sources(alloc, files)?;
     let lock = read_book(alloc, files)?;
-    match plan_of(alloc, root, vars.as_slice(), &sources, targets) {
-        Ok(chosen) => Ok(workspace_of(chosen, lock)),
-        Err(fault) => Err(fault),
-    }
+    choose_of(alloc, root, vars.as_slice(), sources, lock, targets)
 }
 
-fn workspace_of(chosen: Chosen, lock: LockBook) -> Workspace
-    ensures stages { result.stages ≡ chosen.stages }
-    ensures tracks { result.tracks ≡ chosen.tracks }
-    ensures lock { result.lock ≡ lock }
+// The plan of the node of a `dvc.yaml`, and what targets choose of it.
+fn choose_of(
+    alloc: Global,
+    root: &Node,
+    vars: &[VarFile],
+    sources: Sources,
+    lock: LockBook,
+    targets: &[Text],
+) -> Result<Workspace, Fault>
+    requires few_tracks { length sources.tracks < 2 ^ 32 }
+    ensures planned { IfOk result (λ workspace.
+        plan_of targets.now root.now vars.now sources ≡ Ok (turns_at workspace.plan workspace.chosen)) }
+    ensures lock { IfOk result (λ workspace. workspace.plan.lock ≡ lock) }
+    ensures few { IfOk result (λ workspace. length (turns_at workspace.plan workspace.chosen).stages < 2 ^ 32) }
+    ensures answer { IsAnswer (fault_in result) (fault_in (plan_of targets.now root.now vars.now sources)) }
+    ensures kinds { MayBe plan_kinds (fault_in result) }
 {
-    let Chosen { stages, tracks } = chosen;
-    Workspace {
-        stages,
-        tracks,
-        lock,
-    }
+    let plan = Plan::make(alloc, root, vars, sources, lock)?;
+    let chosen = plan.choose(alloc, targets, false)?;
+    Ok(Workspace { plan, chosen })
 }
 
 // The folder of the tool's own files may be missing, but no file may stand there.
