@@ -250,12 +250,7 @@ fn paths_of(alloc: Global, entries: &[PathEntry]) -> Result<Texts, NoMemory>
 }
 
 // A list of texts under its key; nothing of an empty one.
-fn add_texts(
-    alloc: Global,
-    pairs: &mut PairList,
-    key: &str,
-    texts: &[Text],
-) -> Result<(), NoMemory>
+fn add_texts(alloc: Global, pairs: &mut PairList, key: &str, texts: &[Text]) -> Result<(), NoMemory>
     ensures added { OnOk result (pairs.new ≡ pairs.old ++ spec.texts_part key.now texts.now) }
 {
     match texts {
