@@ -16,11 +16,7 @@ use std::alloc::Global;
 use world_api::{Kind, ReadFiles};
 
 /// Refuses where a file stands above the path: by the first one, from above down.
-pub fn find_road<F: ReadFiles>(
-    alloc: Global,
-    files: &mut F,
-    at: &Rel,
-) -> Result<(), CacheFault>
+pub fn find_road<F: ReadFiles>(alloc: Global, files: &mut F, at: &Rel) -> Result<(), CacheFault>
     ensures answer { IsTrue F.tells → IsDue (fault_of result)
         (not_folder (tree_of (F.history files.old)) (parent at.now)) }
     ensures told { IfErr result (IsOnRoad (parent at.now)) }

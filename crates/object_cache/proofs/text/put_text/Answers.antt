@@ -1,12 +1,10 @@
 -- The text is put where no file is in the way.
-use Rattle.std.proofs.Common.{Some, sym, ap, subst, ◌∙◌}
+use Rattle.std.proofs.Common.{Some, ap, ◌∙◌}
 use Rattle.world_api.specs.Calls.{parent}
-use Rattle.world_api.specs.History.{History, Passes}
-use Rattle.object_cache.specs.Giving.{InGive}
+use Rattle.world_api.specs.History.{History}
 use Rattle.object_cache.specs.Due.{not_folder}
 use Rattle.object_cache.proofs.GiveLemmas.{passes_still, passes_give}
 use Rattle.object_cache.proofs.RoadLemmas.{road_of}
-use Rattle.object_cache.proofs.DueLemmas.{due_last}
 use Rattle.object_cache.proofs.text.put_text.Goals as goal
 
 pub returns-in-Err-clause-moments : goal.returns-in-Err-clause-moments

@@ -1,5 +1,5 @@
 -- What stands at the path gives way, the folders above are made, and the text is written.
-use Rattle.std.proofs.Common.{◌≡◌, ◌≢◌, true, [], sym, ap, subst, Some, None}
+use Rattle.std.proofs.Common.{◌≡◌, ◌≢◌, ◌∙◌, ℕ, List, true, [], sym, ap, subst, Some, None}
 use Rattle.std.proofs.lemmas.Bool.{false≢true}
 use Rattle.dvc_base.specs.Path.{Path, under}
 use Rattle.world_api.specs.Calls.{parent}
