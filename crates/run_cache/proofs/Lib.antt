@@ -1,1 +1,5 @@
-
+pub mod TreeLemmas
+mod DigestLemmas
+mod CanonicalLemmas
+mod PathLemmas
+mod RecordLemmas

@@ -2,17 +2,18 @@
 --     found_at t key          the first that can be read, in the order of the names' bytes
 --     find_fault t key        why it can't be told: before it, or in its place, stands a file with too many bytes
 --     IsFindFault key fault   what a refusal tells of, over any world
+--     IsReadFault p fault     the same of a refusal to read one file
 --     IsOfKey key e           an entry in form, of the key
-use Rattle.std.specs.Prelude.{◌≡◌, ℕ, true, List, [], ◌∷◌, length, nat_lt, Option, Some, None, is_some, if◌then◌else◌, ⊤}
+use Rattle.std.specs.Prelude.{◌≡◌, ℕ, true, List, [], ◌∷◌, ◌++◌, length, nat_lt, Option, Some, None, is_some, if◌then◌else◌, ⊤}
 use Rattle.std.specs.Option.{option_or}
-use Rattle.dvc_base.specs.Path.{under}
+use Rattle.dvc_base.specs.Path.{Path, under}
 use Rattle.dvc_base.specs.RunKey.{RunKey, are_key_digits}
 use Rattle.dvc_base.specs.Limits.{limit_of}
 use Rattle.dvc_base.specs.declared.limits.What.TheVariants.{YamlText}
 use Rattle.world_api.specs.Tree.{Tree, Item, file, item_at, names_in}
 use Rattle.lock_files.specs.declared.entry.Entry.{Entry}
 use Rattle.lock_files.specs.Form.{IsEntry}
-use Rattle.object_cache.specs.Due.{or_then}
+use Rattle.object_cache.specs.Due.{IsFree, or_then}
 use Rattle.object_cache.specs.declared.fault.CacheFault.{CacheFault}
 use Rattle.object_cache.specs.declared.fault.CacheFault.TheVariants.{Changed, TooLarge, Failed, NoMemory}
 use Rattle.run_cache.specs.Records.{key_of, key_folder, record_at}
@@ -53,6 +54,11 @@ IsFindFault key Failed = ⊤
 IsFindFault key NoMemory = ⊤
 IsFindFault key _ = ⊥
 
+-- the file has changed, or nothing is told of it
+abbrev pub IsReadFault : Path → CacheFault → Type 0
+IsReadFault p (Changed path told found) = path ≡ p
+IsReadFault p fault = IsFree fault
+
 pub record IsOfKey (key : RunKey) (e : Entry) : Type 0 where
   pub form : IsEntry e
-  pub key : key_of e ≡ key
+  pub same : key_of e ≡ key

@@ -39,8 +39,12 @@ record_text e = print_text (entry_node (canonical_entry e))
 abbrev pub digits_of : List ℕ → List ℕ
 digits_of bytes = encode_lower (sha256 bytes)
 
+-- of an entry with canonical parameters
+abbrev pub key_of_canonical : Entry → RunKey
+key_of_canonical e = record { digits = digits_of (print_text (key_node e)) }
+
 abbrev pub key_of : Entry → RunKey
-key_of e = record { digits = digits_of (print_text (key_node (canonical_entry e))) }
+key_of e = key_of_canonical (canonical_entry e)
 
 -- ---- places
 
@@ -52,11 +56,12 @@ runs_path = cache_path ++ codes "runs" ∷ []
 abbrev pub key_folder : RunKey → Path
 key_folder key = runs_path ++ take 2 key.digits ∷ key.digits ∷ []
 
-abbrev pub record_name : Entry → List ℕ
-record_name e = digits_of (record_text e)
+-- the place of a record, by its key and its text
+abbrev pub place_of : RunKey → List ℕ → Path
+place_of key text = key_folder key ++ digits_of text ∷ []
 
 abbrev pub record_path : Entry → Path
-record_path e = key_folder (key_of e) ++ record_name e ∷ []
+record_path e = place_of (key_of e) (record_text e)
 
 -- ---- readable records
 

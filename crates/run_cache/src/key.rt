@@ -1,8 +1,6 @@
 // The key of a run, by which its records are found.
 ghost use Rattle.std.specs.Prelude.{◌≡◌, IfOk};
-ghost use Rattle.yaml_print.specs.Print.{print_text};
 ghost use Rattle.lock_files.specs.Form.{IsEntry};
-ghost use Rattle.lock_files.specs.Nodes.{key_node};
 ghost use Rattle.run_cache.specs.Records as spec;
 
 use crate::canonical::canonical_entry;
@@ -23,7 +21,7 @@ pub fn key_of(alloc: Global, entry: &Entry) -> Result<Key, NoMemory>
 /// The same, where the entry's parameters are canonical.
 pub fn key_of_canonical(alloc: Global, entry: &Entry) -> Result<Key, NoMemory>
     requires { IsEntry entry.now }
-    ensures exact { IfOk result (λ key. key.digits ≡ spec.digits_of (print_text (key_node entry.now))) }
+    ensures exact { IfOk result (λ key. key ≡ spec.key_of_canonical entry.now) }
 {
     let text = print_key(alloc, entry)?;
     let digits = digits_of(text.as_slice());

@@ -3,11 +3,11 @@
 
 mod canonical;
 mod digits;
-mod find;
-mod keep;
 mod key;
 mod paths;
+mod search;
+mod store;
 
-pub use find::find;
-pub use keep::keep;
 pub use key::key_of;
+pub use search::find;
+pub use store::keep;

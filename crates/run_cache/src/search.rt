@@ -12,7 +12,7 @@ ghost use Rattle.lock_files.specs.Form.{IsEntry};
 ghost use Rattle.object_cache.specs.Due.{fault_of, IsDue, IsFree, HasHonestSizes};
 ghost use Rattle.object_cache.specs.declared.fault.CacheFault.TheVariants.{Failed as Blamed};
 ghost use Rattle.run_cache.specs.Records as spec;
-ghost use Rattle.run_cache.specs.Find.{first_record, found_at, text_fault, record_fault, records_fault, find_fault, IsFindFault, IsOfKey};
+ghost use Rattle.run_cache.specs.Find.{first_record, found_at, text_fault, record_fault, records_fault, find_fault, IsFindFault, IsReadFault, IsOfKey};
 
 use crate::digits::digits_of;
 use crate::key::key_of;
@@ -72,11 +72,7 @@ fn find_in<F: ReadFiles>(
 }
 
 // The names in a folder, in the order of their bytes.
-fn names_in<F: ReadFiles>(
-    alloc: Global,
-    files: &mut F,
-    folder: &Rel,
-) -> Result<Texts, CacheFault>
+fn names_in<F: ReadFiles>(alloc: Global, files: &mut F, folder: &Rel) -> Result<Texts, CacheFault>
     requires { IsTrue F.tells → IsFolderAt (tree_of (F.history files.old)) folder.now }
     ensures told { IsTrue F.tells → IfOk result (λ names.
         names ≡ names_in (tree_of (F.history files.old)) folder.now) }
@@ -201,7 +197,7 @@ fn record_sized<F: ReadFiles>(
             limit,
         });
     }
-    let text = text_at(alloc, files, key, place, size)?;
+    let text = text_at(alloc, files, place, size)?;
     let found = record_in(alloc, key, name, &text)?;
     Ok(found)
 }
@@ -217,8 +213,7 @@ fn text_at<F: ReadFiles>(
     ensures told { IsTrue F.tells → IfOk result (λ text.
         item_at (tree_of (F.history files.old)) place.now ≡ Some (file text.items)) }
     ensures sized { IfOk result (λ text. length text.items ≡ size) }
-    ensures free { IsTrue F.tells → IfErr result IsFree }
-    ensures kinds { IfErr result (IsToldOf place.now) }
+    ensures kinds { IfErr result (IsReadFault place.now) }
     ensures honest { IfErr result (HasHonestSizes F.tells) }
     ensures unchanged { IsUntouched F.tells (F.history files.old) (F.history files.new) }
     ensures cause { IsCaused (F.faults files.old) (F.faults files.new) (IsErrOf result Blamed) }
@@ -236,12 +231,7 @@ fn text_at<F: ReadFiles>(
 }
 
 // The record that a text is under a key and a name, if it is one.
-fn record_in(
-    alloc: Global,
-    key: &Key,
-    name: &[u8],
-    text: &[u8],
-) -> Result<Option<Entry>, NoMemory>
+fn record_in(alloc: Global, key: &Key, name: &[u8], text: &[u8]) -> Result<Option<Entry>, NoMemory>
     requires { length text.now ≤ limit_of YamlText }
     ensures exact { IfOk result (λ found. found ≡ spec.record_in_bytes key.now name.now text.now) }
     ensures form { IfOk result (λ found. IfSome found (IsOfKey key.now)) }

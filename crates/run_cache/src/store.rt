@@ -29,7 +29,7 @@ pub fn keep<F: Files>(alloc: Global, files: &mut F, entry: &Entry) -> Result<(),
         (spec.record_text entry.now) (F.history files.new).present) }
     // What was kept can be read: a look for the entry's key finds a record.
     ensures readable { IsTrue F.tells → OnOk result (spec.record_at (tree_of (F.history files.new))
-        (spec.key_of entry.now) (spec.record_name entry.now) ≡ Some (spec.canonical_entry entry.now)) }
+        (spec.key_of entry.now) (spec.digits_of (spec.record_text entry.now)) ≡ Some (spec.canonical_entry entry.now)) }
     ensures moments { IsTrue F.tells → PassesFrom
         (InGive (spec.record_path entry.now) (Some (spec.record_text entry.now)))
         (F.history files.old) (F.history files.new) }
@@ -45,7 +45,7 @@ pub fn keep<F: Files>(alloc: Global, files: &mut F, entry: &Entry) -> Result<(),
 // Where the record of an entry with canonical parameters stands, which has this text.
 fn path_of(alloc: Global, canonical: &Entry, text: &Bytes) -> Result<Rel, NoMemory>
     requires { IsEntry canonical.now }
-    ensures exact { IfOk result (λ path. path ≡ spec.place_of canonical.now text.now) }
+    ensures exact { IfOk result (λ path. path ≡ spec.place_of (spec.key_of_canonical canonical.now) text.now) }
 {
     let key = key_of_canonical(alloc, canonical)?;
     let folder = key_folder(alloc, &key)?;
