@@ -1,13 +1,16 @@
 -- The entry with canonical parameters.
 --     canonical_form     it is in form, where the entry is
+--     made_form          the same of what is made of canonical parts
 --     key_again          and has the entry's key
-use Rattle.std.proofs.Common.{◌≡◌, ℕ, true, List, [], ◌∷◌, map, refl, sym, ap, subst, ◌∙◌}
+use Rattle.std.proofs.Common.{◌≡◌, ℕ, true, List, [], ◌∷◌, map, length, ◌<◌, refl, sym, ap, subst, ◌∙◌}
+use Rattle.std.specs.Prelude.{IsTrue}
 use Rattle.dvc_base.specs.declared.data.ParamFile.{ParamFile}
 use Rattle.dvc_base.specs.declared.node.Pair.{Pair}
 use Rattle.yaml_print.specs.Print.{value_of}
 use Rattle.yaml_print.specs.Sound.{Each, IsSound}
 use Rattle.lock_files.specs.declared.entry.Entry.{Entry}
-use Rattle.lock_files.specs.Form.{IsKeyed, IsEntry, file_at}
+use Rattle.lock_files.specs.declared.entry.PathEntry.{PathEntry}
+use Rattle.lock_files.specs.Form.{IsKeyed, IsEntry, are_paths, file_at}
 use Rattle.lock_files.specs.Order.{is_rising}
 use Rattle.params.specs.Canonical.{canonical}
 use Rattle.params.proofs.AgainLemmas.{canonical_again}
@@ -20,7 +23,7 @@ use Rattle.run_cache.specs.Records.{canonical_pair, canonical_file, canonical_en
 abbrev AreSound : List Pair → Type 0
 AreSound ps = Each (λ p. IsSound 59 (value_of p)) ps
 
-abbrev AreKeyed : List ParamFile → Type 0
+abbrev pub AreKeyed : List ParamFile → Type 0
 AreKeyed fs = Each (λ f. IsKeyed f.keys) fs
 
 pairs_sound : (ps : List Pair) → AreSound ps → AreSound (map canonical_pair ps)
@@ -49,6 +52,19 @@ canonical_form e h = record {
   keys = files_keyed e.params h.keys;
   outs = h.outs;
 }
+
+-- the same of its parts
+pub made_form : (e : Entry) (cs : List (List ℕ)) (ds : List PathEntry) (fs : List ParamFile) (os : List PathEntry) → cs ≡ e.commands → ds ≡ e.deps → fs ≡ map canonical_file e.params → os ≡ e.outs → IsEntry e
+    → IsEntry (record { commands = cs; deps = ds; params = fs; outs = os })
+made_form e cs ds fs os a b d f h =
+    let whole = canonical_form e h in
+    record {
+      commands = subst (λ (x : List (List ℕ)). 0 < length x) (sym a) h.commands;
+      deps = subst (λ (x : List PathEntry). IsTrue (are_paths x)) (sym b) h.deps;
+      files = subst (λ (x : List ParamFile). IsTrue (is_rising (map file_at x))) (sym d) whole.files;
+      keys = subst AreKeyed (sym d) whole.keys;
+      outs = subst (λ (x : List PathEntry). IsTrue (are_paths x)) (sym f) h.outs;
+    }
 
 -- ---- once is enough
 

@@ -4,6 +4,7 @@
 --     IsFindFault key fault   what a refusal tells of, over any world
 --     IsReadFault p fault     the same of a refusal to read one file
 --     IsOfKey key e           an entry in form, of the key
+--     IsFindable e t          the entry's record can be read, and its key finds one
 use Rattle.std.specs.Prelude.{◌≡◌, ℕ, true, List, [], ◌∷◌, ◌++◌, length, nat_lt, Option, Some, None, is_some, if◌then◌else◌, ⊤}
 use Rattle.std.specs.Option.{option_or}
 use Rattle.dvc_base.specs.Path.{Path, under}
@@ -16,7 +17,7 @@ use Rattle.lock_files.specs.Form.{IsEntry}
 use Rattle.object_cache.specs.Due.{IsFree, or_then}
 use Rattle.object_cache.specs.declared.fault.CacheFault.{CacheFault}
 use Rattle.object_cache.specs.declared.fault.CacheFault.TheVariants.{Changed, TooLarge, Failed, NoMemory}
-use Rattle.run_cache.specs.Records.{key_of, key_folder, record_at}
+use Rattle.run_cache.specs.Records.{canonical_entry, record_text, digits_of, key_of, key_folder, record_at}
 
 -- the record of the first name that has one
 abbrev pub first_record : Tree → RunKey → List (List ℕ) → Option Entry
@@ -62,3 +63,7 @@ IsReadFault p fault = IsFree fault
 pub record IsOfKey (key : RunKey) (e : Entry) : Type 0 where
   pub form : IsEntry e
   pub same : key_of e ≡ key
+
+pub record IsFindable (e : Entry) (t : Tree) : Type 0 where
+  pub readable : record_at t (key_of e) (digits_of (record_text e)) ≡ Some (canonical_entry e)
+  pub found : is_some (found_at t (key_of e)) ≡ true

@@ -134,13 +134,19 @@ fn record_named<F: ReadFiles>(
     ensures unchanged { IsUntouched F.tells (F.history files.old) (F.history files.new) }
     ensures cause { IsCaused (F.faults files.old) (F.faults files.new) (IsErrOf result Blamed) }
 {
-    // The name of a record is spelled as a key is.
     let name = name.as_str().as_bytes();
-    if Key::parse(name).is_none() {
+    if !is_record_name(name) {
         return Ok(None);
     }
     let place = below(alloc, folder, name)?;
     record_at(alloc, files, key, name, &place)
+}
+
+// Whether a record may have the name: one is spelled as a key is.
+fn is_record_name(name: &[u8]) -> bool
+    ensures exact { result ≡ are_key_digits name.now }
+{
+    Key::parse(name).is_some()
 }
 
 // The record at a place, if it can be read under the key and the name.

@@ -9,6 +9,7 @@ ghost use Rattle.object_cache.specs.Giving.{InGive};
 ghost use Rattle.object_cache.specs.Due.{fault_of, IsDue, IsOnRoad, not_folder};
 ghost use Rattle.object_cache.specs.declared.fault.CacheFault.TheVariants.{Failed as Blamed};
 ghost use Rattle.run_cache.specs.Records as spec;
+ghost use Rattle.run_cache.specs.Find.{IsFindable};
 
 use crate::canonical::canonical_entry;
 use crate::digits::digits_of;
@@ -27,9 +28,7 @@ pub fn keep<F: Files>(alloc: Global, files: &mut F, entry: &Entry) -> Result<(),
         (not_folder (tree_of (F.history files.old)) (parent (spec.record_path entry.now))) }
     ensures kept { IsTrue F.tells → OnOk result (IsNewFile (spec.record_path entry.now)
         (spec.record_text entry.now) (F.history files.new).present) }
-    // What was kept can be read: a look for the entry's key finds a record.
-    ensures readable { IsTrue F.tells → OnOk result (spec.record_at (tree_of (F.history files.new))
-        (spec.key_of entry.now) (spec.digits_of (spec.record_text entry.now)) ≡ Some (spec.canonical_entry entry.now)) }
+    ensures findable { IsTrue F.tells → OnOk result (IsFindable entry.now (tree_of (F.history files.new))) }
     ensures moments { IsTrue F.tells → PassesFrom
         (InGive (spec.record_path entry.now) (Some (spec.record_text entry.now)))
         (F.history files.old) (F.history files.new) }
