@@ -1,10 +1,10 @@
 -- The digits of a SHA-256, and what has a name of such digits.
 --     digits-key       they are those of a key
 --     other_name       bytes have no name that isn't of such digits
-use Rattle.std.proofs.Common.{◌≡◌, ℕ, ◌*◌, ◌/◌, ◌%◌, ◌<◌, ◌==◌, ◌&&◌, Bool, true, false, List, [], ◌∷◌, length, arith, ap, sym, subst, ◌∙◌, refl, slice_index, suc, zero, w32, bytes_eq, eq-eqb}
+use Rattle.std.proofs.Common.{◌≡◌, ℕ, ◌*◌, ◌/◌, ◌%◌, ◌<◌, ◌==◌, Bool, true, false, List, [], ◌∷◌, length, arith, ap, sym, subst, ◌∙◌, refl, slice_index, suc, zero, w32, eq-eqb}
 use Rattle.std.specs.List.{All, list_all}
 use Rattle.std.specs.Int.{to_be_bytes}
-use Rattle.std.proofs.lemmas.Bool.{and_from, false≢true, cases_Bool}
+use Rattle.std.proofs.lemmas.Bool.{and_from, false≢true}
 use Rattle.std.proofs.lemmas.List.Sums.{AllPass-from_list_all}
 use Rattle.std.proofs.lemmas.List.Elements.{All-head, All-tail, All-nil, All-cons, All-append}
 use Rattle.std.proofs.lemmas.Slice.Eq.{bytes_eq-Decides}

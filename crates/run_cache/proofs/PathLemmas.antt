@@ -3,9 +3,9 @@
 --     key_digits       the digits of a key, all of them and the first two
 --     in_dvc           a record's folder lies in `.dvc`
 --     no_scratch       and its place is no lane's
-use Rattle.std.proofs.Common.{◌≡◌, ◌≢◌, ℕ, ◌<◌, ◌≤◌, ◌&&◌, Bool, true, false, cond, List, [], ◌∷◌, ◌++◌, length, take, drop, codes, ◌==◌, refl, sym, ap, subst, ◌∙◌, arith, slice_index, Some, Result, Ok, Err, IfOk, eqb-true}
+use Rattle.std.proofs.Common.{◌≡◌, ◌≢◌, ℕ, ◌<◌, true, false, List, [], ◌∷◌, ◌++◌, length, take, drop, codes, ◌==◌, refl, sym, ap, subst, ◌∙◌, arith, slice_index, Some, Result, Ok, Err, IfOk, eqb-true}
 use Rattle.std.specs.Prelude.{nat_lt}
-use Rattle.std.specs.List.{list_all, list_any, slice_split}
+use Rattle.std.specs.List.{list_all}
 use Rattle.std.proofs.lemmas.Bool.{cond_both, ne_eqb, and_parts, false≢true}
 use Rattle.std.proofs.lemmas.List.{take-append-drop}
 use Rattle.std.proofs.lemmas.List.Elements.{All-nil, All-cons, All-weaker}
@@ -23,7 +23,7 @@ use Rattle.dvc_base.proofs.NormalLemmas.{slice_split-joined, walk-names}
 use Rattle.world_api.specs.Calls.{parent}
 use Rattle.world_api.specs.Layout.{dvc_path, tmp_path}
 use Rattle.world_api.specs.Writes.{IsNoScratch}
-use Rattle.run_cache.specs.Records.{runs_path, key_folder, place_of}
+use Rattle.run_cache.specs.Records.{runs_path, place_of}
 
 pub ok_weaker : {T E : Type 0} (r : Result T E) (P Q : T → Type 0) → ((x : T) → P x → Q x) → IfOk r P → IfOk r Q
 ok_weaker (Ok x) P Q f h = f x h

@@ -4,7 +4,7 @@
 --     found_kept        a record that can be read is found, or another one is
 --     kept_by           what was put at its place can be read
 --     none_found        no folder, no record
-use Rattle.std.proofs.Common.{◌≡◌, ◌≢◌, ◌⊎◌, ℕ, Bool, true, false, cond, List, ◌++◌, ◌∷◌, [], refl, sym, ap, subst, ◌∙◌, bytes_eq, Option, Some, None, Result, Ok, Err, inl, inr}
+use Rattle.std.proofs.Common.{◌≡◌, ◌≢◌, ◌⊎◌, ℕ, true, false, List, ◌++◌, ◌∷◌, [], refl, sym, ap, ◌∙◌, bytes_eq, Option, Some, None, Result, Ok, inl, inr}
 use Rattle.std.specs.Prelude.{is_some}
 use Rattle.std.specs.List.{list_any}
 use Rattle.std.specs.Option.{option_or}

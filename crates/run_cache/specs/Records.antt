@@ -4,7 +4,7 @@
 --     key_of e                 what a run is found by: its commands, what it read, and the paths that it wrote
 --     record_path e            where the record of an entry stands
 --     record_at t key name     the entry of a record that can be read; any other file counts as none
-use Rattle.std.specs.Prelude.{ℕ, Bool, ◌&&◌, List, [], ◌∷◌, ◌++◌, map, take, bytes_eq, codes, Option, Some, None, Result, Ok, Err, if◌then◌else◌}
+use Rattle.std.specs.Prelude.{ℕ, Bool, List, [], ◌∷◌, ◌++◌, map, take, bytes_eq, codes, Option, Some, None, Result, Ok, Err, if◌then◌else◌}
 use Rattle.sha2.specs.Sha256.{sha256}
 use Rattle.hex.specs.Hex.{encode_lower}
 use Rattle.dvc_base.specs.Path.{Path}

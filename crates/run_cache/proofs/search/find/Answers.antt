@@ -1,6 +1,5 @@
 -- No folder stands at the key's place, so no record is there.
-use Rattle.std.proofs.Common.{sym, ◌∙◌, ap}
-use Rattle.dvc_base.specs.Path.{Path}
+use Rattle.std.proofs.Common.{sym}
 use Rattle.world_api.specs.Tree.{item_at}
 use Rattle.world_api.specs.Outside.{tree_of}
 use Rattle.run_cache.proofs.RecordLemmas.{none_found, no_folder}

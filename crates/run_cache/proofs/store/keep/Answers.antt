@@ -3,7 +3,6 @@ use Rattle.std.proofs.Common.{◌≡◌, true, sym, subst}
 use Rattle.dvc_base.specs.Path.{Path, under}
 use Rattle.world_api.specs.Calls.{parent}
 use Rattle.world_api.specs.Layout.{dvc_path}
-use Rattle.world_api.specs.Outside.{tree_of}
 use Rattle.world_api.specs.Writes.{IsNoScratch, IsNewFile}
 use Rattle.object_cache.proofs.PutLemmas.{on_ok}
 use Rattle.run_cache.specs.Records.{key_of_canonical}
