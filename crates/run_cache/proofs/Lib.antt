@@ -1,5 +1,5 @@
 pub mod TreeLemmas
 mod DigestLemmas
-mod CanonicalLemmas
-mod PathLemmas
+pub mod CanonicalLemmas
+pub mod PathLemmas
 mod RecordLemmas

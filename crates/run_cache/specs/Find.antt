@@ -24,6 +24,7 @@ abbrev pub first_record : Tree → RunKey → List (List ℕ) → Option Entry
 first_record t key [] = None
 first_record t key (name ∷ names) = option_or (record_at t key name) (first_record t key names)
 
+-- over all names in the key's folder
 abbrev pub found_at : Tree → RunKey → Option Entry
 found_at t key = first_record t key (names_in t (key_folder key))
 
@@ -44,6 +45,7 @@ records_fault t key [] = None
 records_fault t key (name ∷ names) =
     or_then (record_fault t key name) (if is_some (record_at t key name) then None else records_fault t key names)
 
+-- over all names in the key's folder
 abbrev pub find_fault : Tree → RunKey → Option CacheFault
 find_fault t key = records_fault t key (names_in t (key_folder key))
 

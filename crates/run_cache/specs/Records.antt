@@ -26,12 +26,14 @@ use Rattle.object_cache.specs.Objects.{cache_path}
 abbrev pub canonical_pair : Pair → Pair
 canonical_pair = with_value (canonical 59)
 
+-- each key of the file with the canonical node of its value
 abbrev pub canonical_file : ParamFile → ParamFile
 canonical_file f = record { file = f.file; keys = map canonical_pair f.keys }
 
 abbrev pub canonical_entry : Entry → Entry
 canonical_entry e = record { commands = e.commands; deps = e.deps; params = map canonical_file e.params; outs = e.outs }
 
+-- printed as a lock has it
 abbrev pub record_text : Entry → List ℕ
 record_text e = print_text (entry_node (canonical_entry e))
 
@@ -69,9 +71,11 @@ record_path e = place_of (key_of e) (record_text e)
 abbrev pub has_name : List ℕ → List ℕ → Bool
 has_name name bytes = bytes_eq (digits_of bytes) name
 
+-- an entry of the key
 abbrev pub has_key : RunKey → Entry → Bool
 has_key key e = bytes_eq (key_of e).digits key.digits
 
+-- what was read, where it is an entry of the key
 abbrev pub entry_with_key : RunKey → Result Entry LockFault → Option Entry
 entry_with_key key (Ok e) = if has_key key e then Some e else None
 entry_with_key key (Err fault) = None
@@ -80,6 +84,7 @@ entry_with_key key (Err fault) = None
 abbrev pub record_in_bytes : RunKey → List ℕ → List ℕ → Option Entry
 record_in_bytes key name bytes = if has_name name bytes then entry_with_key key (entry_read bytes) else None
 
+-- a folder is no record
 abbrev pub record_in : RunKey → List ℕ → Option Item → Option Entry
 record_in key name (Some (file bytes)) = record_in_bytes key name bytes
 record_in key name _ = None

@@ -209,6 +209,8 @@ fn record_sized<F: ReadFiles>(
 }
 
 // The bytes of a file that was told to have this size.
+// Its buffer is no part of a caller's frame, so that a turn fits the stack that a program begins with.
+#[inline(never)]
 fn text_at<F: ReadFiles>(
     alloc: Global,
     files: &mut F,

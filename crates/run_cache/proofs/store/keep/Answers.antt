@@ -1,15 +1,22 @@
 -- The record is put at its place, which lies in `.dvc` and is no lane's.
-use Rattle.std.proofs.Common.{◌≡◌, true, sym, subst}
+use Rattle.std.proofs.Common.{◌≡◌, true, refl, sym, subst, Some}
 use Rattle.dvc_base.specs.Path.{Path, under}
 use Rattle.world_api.specs.Calls.{parent}
 use Rattle.world_api.specs.Layout.{dvc_path}
 use Rattle.world_api.specs.Writes.{IsNoScratch, IsNewFile}
+use Rattle.object_cache.proofs.GiveLemmas.{passes_still}
 use Rattle.object_cache.proofs.PutLemmas.{on_ok}
-use Rattle.run_cache.specs.Records.{key_of_canonical}
+use Rattle.run_cache.specs.Records.{record_text, key_of_canonical, record_path}
 use Rattle.run_cache.specs.Find.{IsFindable}
 use Rattle.run_cache.proofs.PathLemmas.{in_dvc, no_scratch}
 use Rattle.run_cache.proofs.RecordLemmas.{kept_by}
 use Rattle.run_cache.proofs.store.keep.Goals as goal
+
+pub returns-in_err-path-clause-moments : goal.returns-in_err-path-clause-moments
+returns-in_err-path-clause-moments g c told =
+    let e = c.args.entry.now in
+    let h = g.F.Ground.history c.args.files.now in
+    passes_still (record_path e) (Some (record_text e)) h h refl
 
 pub put_text-requires-clause-apart : goal.put_text-requires-clause-apart
 put_text-requires-clause-apart g c =
