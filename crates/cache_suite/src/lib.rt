@@ -1,9 +1,11 @@
-//! Tests of the objects of the cache, over the memory world.
+//! Tests of the objects of the cache and of the records of runs, over the memory world.
 #![tactic(auto)]
 
 #[cfg(test)]
 mod cache;
 #[cfg(test)]
 mod places;
+#[cfg(test)]
+mod runs;
 #[cfg(test)]
 mod values;

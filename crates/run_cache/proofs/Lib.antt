@@ -1,0 +1,5 @@
+pub mod TreeLemmas
+mod DigestLemmas
+pub mod CanonicalLemmas
+pub mod PathLemmas
+mod RecordLemmas
